@@ -1,0 +1,3 @@
+pub mod Names
+pub mod NameTable
+pub mod Path
