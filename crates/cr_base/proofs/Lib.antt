@@ -1,2 +1,3 @@
 pub mod Joined
 pub mod NameTables
+pub mod Shifts

@@ -8,6 +8,7 @@ mod list;
 mod memory;
 mod name_table;
 mod path;
+mod substitution;
 mod text;
 mod token;
 mod unit;
@@ -21,6 +22,10 @@ pub use list::List;
 pub use memory::OutOfMemory;
 pub use name_table::NameTable;
 pub use path::PathText;
+pub use substitution::shifted_places_are_where_the_bytes_went;
 pub use text::Text;
 pub use token::{Name, Origin, PathNo, Place, PpKind, PpTok, Tok, TokKind};
 pub use unit::Unit;
+
+#[cfg(test)]
+mod tests;
