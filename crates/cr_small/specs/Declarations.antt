@@ -1,0 +1,55 @@
+-- The declarations of a translation unit as one flat list, and what a name means (C11 6.2.1, 6.2.2, 6.7).
+use Rattle.std.specs.Prelude.{ℕ, Bool, true, false, not, ◌&&◌, List, [], ◌∷◌, Option, Some, None, if◌then◌else◌, bytes_eq}
+use Rattle.std.specs.List.{list_any, find}
+use Rattle.std.specs.Option.{option_or}
+
+-- A declaration: the scope in which it stands, as the numbers of the scopes entered with the innermost first
+-- (none at file scope); its name; the number of its token; whether it is a function, and else an object; and
+-- whether it has external linkage, and else none.
+pub record Entry : Type 0 where
+  pub path : List ℕ
+  pub name : List ℕ
+  pub token : ℕ
+  pub function : Bool
+  pub external : Bool
+
+-- the entry is of this scope and name
+abbrev pub is_in : List ℕ → List ℕ → Entry → Bool
+is_in path name entry = bytes_eq entry.path path && bytes_eq entry.name name
+
+-- the last entry of this scope and name
+abbrev pub last_in : List ℕ → List ℕ → List Entry → Option Entry
+last_in path name [] = None
+last_in path name (entry ∷ entries) = option_or (last_in path name entries) (if is_in path name entry then Some entry else None)
+
+-- What a name means in a scope: its last declaration there, else what it means in the scope around (C11 6.2.1p4).
+abbrev pub lookup : List Entry → List ℕ → List ℕ → Option Entry
+lookup entries name [] = last_in [] name entries
+lookup entries name (scope ∷ around) = option_or (last_in (scope ∷ around) name entries) (lookup entries name around)
+
+abbrev pub is_external : List ℕ → Entry → Bool
+is_external name entry = entry.external && bytes_eq entry.name name
+
+-- the first declaration of a name with external linkage
+abbrev pub first_external : List ℕ → List Entry → Option Entry
+first_external name entries = find (is_external name) entries
+
+abbrev pub token_or : ℕ → Option Entry → ℕ
+token_or own None = own
+token_or own (Some entry) = entry.token
+
+-- The first declaring token of the entity that an entry declares: all declarations of a name with external
+-- linkage are one entity, and any other is one by itself (C11 6.2.2p2).
+abbrev pub entity_of : List Entry → Entry → ℕ
+entity_of entries entry = if entry.external then token_or entry.token (first_external entry.name entries) else entry.token
+
+abbrev pub both_or_neither : Bool → Bool → Bool
+both_or_neither true b = b
+both_or_neither false b = not b
+
+-- Two declarations of a name in one scope clash, unless both have linkage and are of one kind (C11 6.7p3).
+abbrev pub clashes : Entry → Entry → Bool
+clashes new old = is_in new.path new.name old && not (new.external && old.external && both_or_neither new.function old.function)
+
+abbrev pub is_redeclared : List Entry → Entry → Bool
+is_redeclared entries new = list_any (clashes new) entries

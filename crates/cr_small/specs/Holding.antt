@@ -1,0 +1,99 @@
+-- How the two maps of the code hold the flat list of declarations. No contract of a public call cites it.
+use Rattle.std.specs.Prelude.{◌≡◌, ℕ, ◌<◌, Bool, true, false, not, ◌&&◌, List, [], ◌∷◌, Option, Some, None, bytes_eq, if◌then◌else◌}
+use Rattle.std.specs.Borrow.{Bor}
+use Rattle.std.specs.List.{list_any}
+use Rattle.std.specs.Option.{option_map}
+use Rattle.std.specs.Map.{lookup as found_in}
+use Rattle.cr_small.specs.Declarations.{Entry, is_external, first_external, last_in, both_or_neither}
+use Rattle.cr_small.specs.Resolution.{Bindings, Bound, is_file_scope}
+use Rattle.cr_small.specs.declared.grammar.Part.{Part}
+use Rattle.cr_small.specs.declared.grammar.Part.TheVariants as part
+use Rattle.cr_small.specs.declared.scopes.Symbol.{Symbol}
+use Rattle.cr_small.specs.declared.scopes.Scopes.{Scopes}
+use Rattle.cr_small.specs.declared.binder.Denotation.{Denotation}
+use Rattle.cr_small.specs.declared.binder.Binding.{Binding}
+
+abbrev pub symbol_of : Entry → Symbol
+symbol_of e = record { function = e.function; token = e.token }
+
+-- what a map gives for a name
+abbrev pub symbol_in : List ℕ → List (Bor (List ℕ) × Symbol) → Option Symbol
+symbol_in name entries = found_in (λ k. bytes_eq name k.now) entries
+
+-- the scope of an entry is the file, or a body that was opened already
+abbrev pub IsOpened : ℕ → List ℕ → Type 0
+IsOpened next [] = Unit {0}
+IsOpened next (scope ∷ []) = scope < next
+IsOpened next (scope ∷ around ∷ rest) = ⊥
+
+abbrev pub AllOpened : ℕ → List Entry → Type 0
+AllOpened next [] = Unit {0}
+AllOpened next (e ∷ es) = IsOpened next e.path × (e.external ≡ is_file_scope e.path) × AllOpened next es
+
+-- an external declaration of the name, of the other kind
+abbrev pub other_kind : Bool → List ℕ → Entry → Bool
+other_kind function name e = is_external name e && not (both_or_neither function e.function)
+
+-- no external declaration of a name is of another kind than the first
+abbrev pub IsOneKind : List Entry → Type 0
+IsOneKind entries = (name : List ℕ) (first : Entry) → first_external name entries ≡ Some first → list_any (other_kind first.function name) entries ≡ false
+
+-- the present scope, as the code knows it
+abbrev pub IsPresent : Bool → ℕ → List ℕ → Type 0
+IsPresent true next [] = ⊥
+IsPresent true next (scope ∷ []) = scope < next
+IsPresent true next (scope ∷ around ∷ rest) = ⊥
+IsPresent false next path = path ≡ []
+
+-- the map of the open body holds what its scope declares
+abbrev pub HoldsBody : Bool → List (Bor (List ℕ) × Symbol) → List ℕ → List Entry → Type 0
+HoldsBody false block path entries = Unit {0}
+HoldsBody true block path entries = (name : List ℕ) → symbol_in name block ≡ option_map symbol_of (last_in path name entries)
+
+pub record Holds (s : Scopes) (b : Bindings) : Type 0 where
+  pub file : (name : List ℕ) → symbol_in name s.file.entries ≡ option_map symbol_of (first_external name b.entries)
+  pub body : HoldsBody s.in_body s.body.entries b.path b.entries
+  pub present : IsPresent s.in_body b.next b.path
+  pub opened : AllOpened b.next b.entries
+  pub one_kind : IsOneKind b.entries
+
+abbrev pub answer : ℕ → Bool → Binding
+answer token external = record { denotes = Some (record { token = token; external = external }) }
+
+abbrev pub external_answer : Option Symbol → Option Binding
+external_answer None = None
+external_answer (Some symbol) = Some (answer symbol.token true)
+
+-- one more declaration of a name at file scope
+abbrev pub again_answer : Symbol → Bool → Option Binding
+again_answer first function = if both_or_neither first.function function then Some (answer first.token true) else None
+
+-- a body is opened at file scope alone
+abbrev pub MayStand : Part → Bool → Type 0
+MayStand part.Plain in_body = Unit {0}
+MayStand part.Opens in_body = in_body ≡ false
+MayStand part.Closes in_body = Unit {0}
+MayStand part.DeclaresObject in_body = Unit {0}
+MayStand part.DeclaresFunction in_body = Unit {0}
+MayStand part.Mentions in_body = Unit {0}
+
+-- whether a body is open behind a token
+abbrev pub level_behind : Part → Bool → Bool
+level_behind part.Plain in_body = in_body
+level_behind part.Opens in_body = true
+level_behind part.Closes in_body = false
+level_behind part.DeclaresObject in_body = in_body
+level_behind part.DeclaresFunction in_body = in_body
+level_behind part.Mentions in_body = in_body
+
+-- no body is opened inside another
+abbrev pub AreBraced : List Part → Bool → Type 0
+AreBraced [] in_body = Unit {0}
+AreBraced (p ∷ ps) in_body = MayStand p in_body × AreBraced ps (level_behind p in_body)
+
+-- the code's answer is that of the flat list, and its maps hold what the list has become
+abbrev pub Answers : Scopes → Option Bound → Option Binding → Type 0
+Answers s None None = Unit {0}
+Answers s None (Some answer) = ⊥
+Answers s (Some bound) None = ⊥
+Answers s (Some bound) (Some answer) = Holds s bound.after × (answer.denotes ≡ bound.denotes)

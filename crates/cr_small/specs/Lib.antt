@@ -1,0 +1,10 @@
+pub mod Tokens
+pub mod Terminals
+pub mod Tree
+pub mod Derivation
+pub mod Declarations
+pub mod Resolution
+pub mod SmallForm
+pub mod Machine
+pub mod Holding
+pub mod Seen

@@ -1,0 +1,68 @@
+//! What the names of a text denote.
+ghost use Rattle.std.specs.Prelude.{◌≡◌, false, map, length, IfOk};
+ghost use Rattle.std.specs.Option.{option_map};
+ghost use Rattle.std.specs.List.{zip};
+ghost use Rattle.cr_small.specs.Resolution.{file_scope, resolved};
+ghost use Rattle.cr_small.specs.Holding.{AreBraced};
+ghost use Rattle.cr_small.specs.SmallForm.{Resolves};
+ghost use Rattle.cr_small.specs.Seen.{token_of};
+
+use crate::grammar::{Part, read_parts};
+use crate::scopes::Scopes;
+use crate::terminal::has_plain_names;
+use crate::token::Token;
+use cr_base::OutOfMemory;
+use std::alloc::Global;
+
+/// The entity that a token denotes: the number of its first declaring token, and whether it has
+/// external linkage (C11 6.2.2).
+#[derive(Clone, Copy, Debug, PartialEq, Eq)]
+pub struct Denotation {
+    pub token: usize,
+    pub external: bool,
+}
+
+/// The entity that one token denotes, if it is an identifier that denotes one.
+#[derive(Clone, Copy)]
+pub struct Binding {
+    pub denotes: Option<Denotation>,
+}
+
+// What each token denotes, from what it does; nothing where a name is undeclared or redeclared.
+fn bind(
+    alloc: Global,
+    tokens: &[Token],
+    parts: &[Part],
+) -> Result<Option<Vec<Option<Denotation>>>, OutOfMemory>
+    requires length { length parts.now ≡ length tokens.now }
+    requires braced { AreBraced parts.now false }
+    ensures { IfOk result (λ found. option_map (λ v. v.items) found ≡ resolved 0 file_scope (zip (map token_of tokens.now) parts.now)) }
+{
+    let mut denotes = Vec::with_capacity(alloc, tokens.len())?;
+    let mut scopes = Scopes::new(alloc);
+    for (i, token) in tokens.iter().enumerate() {
+        let Some(binding) = scopes.meet(parts[i], token.text, i)? else {
+            return Ok(None);
+        };
+        denotes.push(binding.denotes)?;
+    }
+    Ok(Some(denotes))
+}
+
+/// What each token of a text of the small form denotes, in their order; nothing where the tokens
+/// are not of the small form.
+pub fn resolve(
+    alloc: Global,
+    tokens: &[Token],
+) -> Result<Option<Vec<Option<Denotation>>>, OutOfMemory>
+    ensures { IfOk result (λ found. Resolves (map token_of tokens.now) (option_map (λ v. v.items) found)) }
+{
+    if !has_plain_names(tokens) {
+        return Ok(None);
+    }
+    let Some(parts) = read_parts(alloc, tokens)? else {
+        return Ok(None);
+    };
+    let found = bind(alloc, tokens, &parts)?;
+    Ok(found)
+}
