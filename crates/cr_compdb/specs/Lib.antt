@@ -1,0 +1,5 @@
+pub mod Command
+pub mod Modes
+pub mod Settings
+pub mod Entries
+pub mod Database

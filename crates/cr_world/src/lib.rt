@@ -1,0 +1,19 @@
+//! The outside of the program as two traits, a tree of files and a sink of bytes. Each tells, where it
+//! can, what it holds, and always how many of its calls failed. Two stand in memory, for tests, and two
+//! over the system's files and streams.
+#![tactic(auto)]
+
+mod calls;
+mod dir_tree;
+mod mem_sink;
+mod mem_tree;
+mod outside;
+mod std_sink;
+#[cfg(test)]
+mod tests;
+
+pub use dir_tree::DirTree;
+pub use mem_sink::MemSink;
+pub use mem_tree::MemTree;
+pub use outside::{DoneEnd, ReadEnd, Sink, Tree};
+pub use std_sink::StdSink;
