@@ -8,7 +8,7 @@ use Rattle.cr_small.specs.Tree.{Item, number, mention, call, Sum, Statement, loc
 use Rattle.cr_small.specs.Derivation.{HasParts}
 use Rattle.std.specs.List.{zip}
 use Rattle.cr_small.specs.Resolution.{resolved, file_scope, resolution}
-use Rattle.cr_small.specs.SmallForm.{IsSmallForm, Resolves}
+use Rattle.cr_small.specs.SmallForm.{IsSmallForm, Resolves, DenotesOne}
 use Rattle.cr_small.specs.Machine.{run}
 use Rattle.cr_small.specs.Holding.{AreBraced}
 use Rattle.cr_small.specs.declared.terminal.Terminal.TheVariants as terminal
@@ -80,3 +80,9 @@ resolves tokens does None names h e = λ denotes small.
     let bad : None ≡ Some denotes = e ∙ ap (λ d. resolved 0 file_scope (zip tokens d)) same ∙ small.1.1.1 in
     cc
 resolves tokens does (Some denotes) names h e = (names, (h.0, (h.1, sym (e ∙ ap (λ d. resolved 0 file_scope (zip tokens d)) h.2))))
+
+pub denotes_one : DenotesOne
+denotes_one tokens one other a b =
+    let same = parts_are_one tokens a.1.0 b.1.0 a.1.1.0 b.1.1.0 in
+    let e : Some one ≡ Some other = sym a.1.1.1 ∙ ap (λ d. resolved 0 file_scope (zip tokens d)) same ∙ b.1.1.1 in
+    let f : one ≡ other = cc in f

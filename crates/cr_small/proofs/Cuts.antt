@@ -1,5 +1,6 @@
 -- The first token of a text.
-use Rattle.std.proofs.Common.{◌≡◌, ℕ, zero, suc, ◌+◌, ◌<◌, ◌≤◌, Bool, true, false, List, [], ◌∷◌, ◌++◌, length, get_or, take, drop, refl, sym, ap, ◌∙◌, arith, append_assoc}
+use Rattle.cr_base.specs.Substitution.{Rise}
+use Rattle.std.proofs.Common.{◌≡◌, ◌⊎◌, inl, inr, ℕ, zero, suc, ◌+◌, ◌<◌, ◌≤◌, Bool, true, false, List, [], ◌∷◌, ◌++◌, length, get_or, take, drop, refl, sym, ap, ◌∙◌, subst, arith, append_assoc}
 use Rattle.std.specs.Prelude.{◌&&◌}
 use Rattle.std.specs.List.{list_all}
 use Rattle.std.proofs.lemmas.Bool.Decides.{nat_tests}
@@ -40,3 +41,65 @@ first_word (b ∷ rest) (suc n) offset within word stop first some =
 pub one_more : (text : List ℕ) (at len : ℕ) (olds news : List Token) (t : Token) → olds ++ cut at (drop at text) ≡ cut 0 text → cut at (drop at text) ≡ t ∷ cut (at + len) (drop len (drop at text)) → news ≡ olds ++ t ∷ [] → news ++ cut (at + len) (drop (at + len) text) ≡ cut 0 text
 one_more text at len olds news t kept first grown =
     rw (grown, append_assoc, ← drop-drop len at text, ← first) kept
+
+pub rise_down : (offsets : List ℕ) (from lower len end : ℕ) → lower ≤ from → Rise from offsets len end → Rise lower offsets len end
+rise_down [] from lower len end le h = omega arith
+rise_down (o ∷ os) from lower len end le h = (omega (arith, h.0), h.1)
+
+-- tokens stand one behind the other, up to the end
+abbrev pub InOrder : ℕ → List Token → ℕ → Type 0
+InOrder from [] end = from ≤ end
+InOrder from (token ∷ tokens) end = (from ≤ token.offset) × InOrder (token.offset + length token.text) tokens end
+
+-- the first token stands at this offset
+abbrev BeginsAt : ℕ → List Token → Type 0
+BeginsAt offset [] = ⊥
+BeginsAt offset (token ∷ tokens) = token.offset ≡ offset
+
+longer_begins : (offset byte : ℕ) (tokens : List Token) → BeginsAt (offset + 1) tokens → BeginsAt offset (longer offset byte tokens)
+longer_begins offset byte [] h = elim h [ ]
+longer_begins offset byte (t ∷ ts) h = refl
+
+in_order-longer : (offset byte : ℕ) (tokens : List Token) (end : ℕ) → BeginsAt (offset + 1) tokens → InOrder (offset + 1) tokens end → InOrder offset (longer offset byte tokens) end
+in_order-longer offset byte [] end b h = elim b [ ]
+in_order-longer offset byte (t ∷ ts) end b h =
+    (omega arith, subst (λ n. InOrder n ts end) (let e : t.offset + length t.text ≡ offset + suc (length t.text) = omega (arith, b) in e) h.1)
+
+in_order-down : (tokens : List Token) (from lower end : ℕ) → lower ≤ from → InOrder from tokens end → InOrder lower tokens end
+in_order-down [] from lower end le h = omega arith
+in_order-down (t ∷ ts) from lower end le h = (omega (arith, h.0), h.1)
+
+bool_cases : (b : Bool) → (b ≡ true) ⊎ (b ≡ false)
+bool_cases true = inl refl
+bool_cases false = inr refl
+
+cut-alone : (b offset : ℕ) (rest : List ℕ) → is_blank b ≡ false → (is_word_byte b && begins_word rest) ≡ false → cut offset (b ∷ rest) ≡ (record { offset = offset; text = b ∷ [] }) ∷ cut (offset + 1) rest
+cut-alone b offset rest dark alone = rw (dark, alone) refl
+
+cut-blank : (b offset : ℕ) (rest : List ℕ) → is_blank b ≡ true → cut offset (b ∷ rest) ≡ cut (offset + 1) rest
+cut-blank b offset rest blank = rw blank refl
+
+and_false : (a b : Bool) → b ≡ false → (a && b) ≡ false
+and_false true b h = h
+and_false false b h = refl
+
+cut-begins : (bytes : List ℕ) (offset : ℕ) → begins_word bytes ≡ true → BeginsAt offset (cut offset bytes)
+cut-begins [] offset h = absurd (cc)
+cut-begins (b ∷ rest) offset h =
+    elim (bool_cases (begins_word rest)) [
+      | inl more ↦ subst (BeginsAt offset) (sym (cut-word_byte b offset rest h more)) (longer_begins offset b (cut (offset + 1) rest) (cut-begins rest (offset + 1) more))
+      | inr less ↦ subst (BeginsAt offset) (sym (cut-alone b offset rest (word_not_blank b h) (and_false (is_word_byte b) (begins_word rest) less))) refl
+    ]
+
+pub cut-in_order : (bytes : List ℕ) (offset : ℕ) → InOrder offset (cut offset bytes) (offset + length bytes)
+cut-in_order [] offset = omega arith
+cut-in_order (b ∷ rest) offset =
+    let sum : (offset + 1) + length rest ≡ offset + suc (length rest) = omega arith in
+    let ih : InOrder (offset + 1) (cut (offset + 1) rest) (offset + suc (length rest)) = subst (λ n. InOrder (offset + 1) (cut (offset + 1) rest) n) sum (cut-in_order rest (offset + 1)) in
+    elim (bool_cases (is_blank b)) [
+      | inl blank ↦ subst (λ ts. InOrder offset ts (offset + suc (length rest))) (sym (cut-blank b offset rest blank)) (in_order-down (cut (offset + 1) rest) (offset + 1) offset _ (omega arith) ih)
+      | inr dark ↦ elim (bool_cases (is_word_byte b && begins_word rest)) [
+        | inl word ↦ let w = both (is_word_byte b) (begins_word rest) word in subst (λ ts. InOrder offset ts (offset + suc (length rest))) (sym (cut-word_byte b offset rest w.0 w.1)) (in_order-longer offset b (cut (offset + 1) rest) _ (cut-begins rest (offset + 1) w.1) ih)
+        | inr alone ↦ subst (λ ts. InOrder offset ts (offset + suc (length rest))) (sym (cut-alone b offset rest dark alone)) (omega arith, ih)
+      ]
+    ]

@@ -2,6 +2,8 @@ pub mod Braces
 pub mod Cuts
 pub mod Flat
 pub mod Maps
+pub mod Names
+pub mod Pairs
 pub mod Parts
 pub mod Reading
 pub mod Walk

@@ -1,6 +1,11 @@
 -- What the code holds, without where it lies in memory.
 use Rattle.cr_small.specs.Tokens as tokens
+use Rattle.cr_small.specs.Renaming as renaming
 use Rattle.cr_small.specs.declared.token.Token.{Token}
+use Rattle.cr_small.specs.declared.renaming.Target.{Target}
 
 abbrev pub token_of : Token → tokens.Token
 token_of t = record { offset = t.offset; text = t.text.now }
+
+abbrev pub target_of_code : Target → renaming.Target
+target_of_code t = record { name = t.name.now; entity = t.entity }

@@ -19,3 +19,7 @@ IsSmallForm tokens denotes = (has_plain_names tokens ≡ true) × ((tree : List 
 abbrev pub Resolves : List Token → Option (List (Option Denotation)) → Type 0
 Resolves tokens None = (denotes : List (Option Denotation)) → IsSmallForm tokens denotes → ⊥
 Resolves tokens (Some denotes) = IsSmallForm tokens denotes
+
+-- The tokens of a text of the small form denote one thing.
+abbrev pub DenotesOne : Type 0
+DenotesOne = (tokens : List Token) (one other : List (Option Denotation)) → IsSmallForm tokens one → IsSmallForm tokens other → one ≡ other

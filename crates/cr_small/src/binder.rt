@@ -1,5 +1,5 @@
 //! What the names of a text denote.
-ghost use Rattle.std.specs.Prelude.{◌≡◌, false, map, length, IfOk};
+ghost use Rattle.std.specs.Prelude.{◌≡◌, false, map, length, IfOk, IfSome};
 ghost use Rattle.std.specs.Option.{option_map};
 ghost use Rattle.std.specs.List.{zip};
 ghost use Rattle.cr_small.specs.Resolution.{file_scope, resolved};
@@ -55,7 +55,8 @@ pub fn resolve(
     alloc: Global,
     tokens: &[Token],
 ) -> Result<Option<Vec<Option<Denotation>>>, OutOfMemory>
-    ensures { IfOk result (λ found. Resolves (map token_of tokens.now) (option_map (λ v. v.items) found)) }
+    ensures resolves { IfOk result (λ found. Resolves (map token_of tokens.now) (option_map (λ v. v.items) found)) }
+    ensures length { IfOk result (λ found. IfSome found (λ v. length v.items ≡ length tokens.now)) }
 {
     if !has_plain_names(tokens) {
         return Ok(None);
