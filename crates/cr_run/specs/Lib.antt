@@ -1,0 +1,5 @@
+pub mod CommandLine
+pub mod Seen
+pub mod Outcome
+pub mod Report
+pub mod Top
