@@ -15,7 +15,7 @@ both false b h = absurd (cc)
 pub word_not_blank : (b : ℕ) → is_word_byte b ≡ true → is_blank b ≡ false
 word_not_blank b h = grind (arith, nat_tests)
 
-cut-word_byte : (b offset : ℕ) (rest : List ℕ) → is_word_byte b ≡ true → begins_word rest ≡ true → cut offset (b ∷ rest) ≡ longer offset b (cut (offset + 1) rest)
+pub cut-word_byte : (b offset : ℕ) (rest : List ℕ) → is_word_byte b ≡ true → begins_word rest ≡ true → cut offset (b ∷ rest) ≡ longer offset b (cut (offset + 1) rest)
 cut-word_byte b offset rest word more = rw (word_not_blank b word, word, more) refl
 
 pub cut-word : (w rest : List ℕ) (offset : ℕ) → 0 < length w → list_all is_word_byte w ≡ true → begins_word rest ≡ false → cut offset (w ++ rest) ≡ (record { offset = offset; text = w }) ∷ cut (offset + length w) rest
@@ -73,13 +73,13 @@ bool_cases : (b : Bool) → (b ≡ true) ⊎ (b ≡ false)
 bool_cases true = inl refl
 bool_cases false = inr refl
 
-cut-alone : (b offset : ℕ) (rest : List ℕ) → is_blank b ≡ false → (is_word_byte b && begins_word rest) ≡ false → cut offset (b ∷ rest) ≡ (record { offset = offset; text = b ∷ [] }) ∷ cut (offset + 1) rest
+pub cut-alone : (b offset : ℕ) (rest : List ℕ) → is_blank b ≡ false → (is_word_byte b && begins_word rest) ≡ false → cut offset (b ∷ rest) ≡ (record { offset = offset; text = b ∷ [] }) ∷ cut (offset + 1) rest
 cut-alone b offset rest dark alone = rw (dark, alone) refl
 
-cut-blank : (b offset : ℕ) (rest : List ℕ) → is_blank b ≡ true → cut offset (b ∷ rest) ≡ cut (offset + 1) rest
+pub cut-blank : (b offset : ℕ) (rest : List ℕ) → is_blank b ≡ true → cut offset (b ∷ rest) ≡ cut (offset + 1) rest
 cut-blank b offset rest blank = rw blank refl
 
-and_false : (a b : Bool) → b ≡ false → (a && b) ≡ false
+pub and_false : (a b : Bool) → b ≡ false → (a && b) ≡ false
 and_false true b h = h
 and_false false b h = refl
 

@@ -1,9 +1,16 @@
 pub mod Braces
 pub mod Cuts
+pub mod Edited
 pub mod Flat
+pub mod Keeping
+pub mod Links
 pub mod Maps
+pub mod Moved
 pub mod Names
 pub mod Pairs
 pub mod Parts
 pub mod Reading
+pub mod Renames
+pub mod Spacing
+pub mod Spelling
 pub mod Walk

@@ -133,7 +133,7 @@ module _ (text_at : ℕ → List ℕ) where
           (subst (SpelledOne x.0.text) same own, more (ap (λ y. Some y) tail))
 
       by : (o : Option Bound) → BoundNamed x.0.text o → ((c : Bindings) → All IsNamed c.entries → resolved (n + 1) c xs ≡ Some ds → Spelled xs ds)
-        → option_and_then (λ e. option_map (λ l. e.denotes ∷ l) (resolved (n + 1) e.after xs)) o ≡ Some (d ∷ ds) → SpelledOne x.0.text d × Spelled xs ds
+          → option_and_then (λ e. option_map (λ l. e.denotes ∷ l) (resolved (n + 1) e.after xs)) o ≡ Some (d ∷ ds) → SpelledOne x.0.text d × Spelled xs ds
       by None named more g = let no : ⊥ = cc in absurd no
       by (Some e) named more g = rest e (resolved (n + 1) e.after xs) (more e.after named.0) named.1 g
 
@@ -147,7 +147,7 @@ resolved-length (x ∷ xs) n b ds h = by (bound b n x.0.text x.1) (λ c l g. res
     rest e (Some l) more g = let same : e.denotes ∷ l ≡ ds = cc in ap length (sym same) ∙ ap suc (more l refl)
 
     by : (o : Option Bound) → ((c : Bindings) (l : List (Option Denotation)) → resolved (n + 1) c xs ≡ Some l → length l ≡ length xs)
-      → option_and_then (λ e. option_map (λ l. e.denotes ∷ l) (resolved (n + 1) e.after xs)) o ≡ Some ds → length ds ≡ length (x ∷ xs)
+        → option_and_then (λ e. option_map (λ l. e.denotes ∷ l) (resolved (n + 1) e.after xs)) o ≡ Some ds → length ds ≡ length (x ∷ xs)
     by None more g = let no : ⊥ = cc in absurd no
     by (Some e) more g = rest e (resolved (n + 1) e.after xs) (more e.after) g
 
@@ -181,7 +181,7 @@ derived-length ts tree d = length-map (leaves tree) (λ l. l.part) ∙ sym (leng
 pub well-spelled : (ts : List Token) (tree : List External) (ds : List (Option Denotation)) → IsWellFormed ts tree ds → AllSpelled (text_of ts) (zip ts ds)
 well-spelled ts tree ds w =
     all-spelled (text_of ts) ts (parts tree) ds (derived-length ts tree w.0)
-      (spelled (text_of ts) (zip ts (parts tree)) 0 file_scope ds tt (texts-from ts (parts tree) (text_of ts) 0 (λ k. ap (text_of ts) (let e : 0 + k ≡ k = omega arith in e))) w.1)
+    (spelled (text_of ts) (zip ts (parts tree)) 0 file_scope ds tt (texts-from ts (parts tree) (text_of ts) 0 (λ k. ap (text_of ts) (let e : 0 + k ≡ k = omega arith in e))) w.1)
 
 eq-true : (n : ℕ) → (n == n) ≡ true
 eq-true n = eq-eqb n n refl
@@ -204,7 +204,7 @@ InOrder-end [] from end h = h
 InOrder-end (t ∷ ts) from end h = let k = InOrder-end ts (t.offset + length t.text) end h.1 in omega (arith, h.0)
 
 -- a token that denotes an entity is as long as its name
-same-length : (f : ℕ → List ℕ) (entity : ℕ) (t : Token) (d : Option Denotation) → SpelledOne f t.text d → denotes_entity entity d ≡ true → t.text ≡ f entity
+pub same-length : (f : ℕ → List ℕ) (entity : ℕ) (t : Token) (d : Option Denotation) → SpelledOne f t.text d → denotes_entity entity d ≡ true → t.text ≡ f entity
 same-length f entity t None own h = let no : ⊥ = cc in absurd no
 same-length f entity t (Some d) own h = let same : d.token ≡ entity = eqb-true d.token entity h in sym own ∙ ap f same
 
@@ -218,7 +218,7 @@ rise-places f entity (t ∷ ts) (d ∷ ds) from end h all =
     places = places_of entity (zip ts ds)
 
     by : (b : Bool) → denotes_entity entity d ≡ b → Rise (t.offset + length t.text) (places_of entity (zip ts ds)) (length (f entity)) end
-      → Rise from (map (λ one. one.0.offset) (if b then (t, d) ∷ filter (λ one. denotes_entity entity one.1) (zip ts ds) else filter (λ one. denotes_entity entity one.1) (zip ts ds))) (length (f entity)) end
+        → Rise from (map (λ one. one.0.offset) (if b then (t, d) ∷ filter (λ one. denotes_entity entity one.1) (zip ts ds) else filter (λ one. denotes_entity entity one.1) (zip ts ds))) (length (f entity)) end
     by true e rest = (h.0, subst (λ n. Rise (t.offset + n) (places_of entity (zip ts ds)) (length (f entity)) end) (ap length (same-length f entity t d all.0 e)) rest)
     by false e rest = rise_down (places_of entity (zip ts ds)) (t.offset + length t.text) from (length (f entity)) end (omega (arith, h.0)) rest
 
@@ -228,7 +228,7 @@ places_rise_proof bytes denotes offset target small at =
     let named = target-spelled (text_of (cut 0 bytes)) (zip (cut 0 bytes) denotes) offset target all at in
     let order : InOrder 0 (cut 0 bytes) (length bytes) = subst (λ n. InOrder 0 (cut 0 bytes) n) (let e : 0 + length bytes ≡ length bytes = omega arith in e) (cut-in_order bytes 0) in
     subst (λ name. Rise 0 (places_of target.entity (zip (cut 0 bytes) denotes)) (length name) (length bytes)) named
-      (rise-places (text_of (cut 0 bytes)) target.entity (cut 0 bytes) denotes 0 (length bytes) order all)
+    (rise-places (text_of (cut 0 bytes)) target.entity (cut 0 bytes) denotes 0 (length bytes) order all)
 
 pub has_place_proof : HasPlace
 has_place_proof [] offset target h = let no : ⊥ = cc in absurd no

@@ -21,17 +21,17 @@ module _ (tokens : List code.Token) (denotes : List (Option Denotation)) (i : �
       ∙ ap (zip (map token_of (get_or tokens i no_token ∷ drop (i + 1) tokens))) (drop_more denotes i None k)
 
   pub target_here : (offset : ℕ) (b : Bool) → covers offset (token_of (get_or tokens i no_token)) ≡ b
-    → target_at offset (zip (map token_of (drop i tokens)) (drop i denotes)) ≡ (if b then target_of (token_of (get_or tokens i no_token)) (get_or denotes i None) else target_at offset (zip (map token_of (drop (i + 1) tokens)) (drop (i + 1) denotes)))
+      → target_at offset (zip (map token_of (drop i tokens)) (drop i denotes)) ≡ (if b then target_of (token_of (get_or tokens i no_token)) (get_or denotes i None) else target_at offset (zip (map token_of (drop (i + 1) tokens)) (drop (i + 1) denotes)))
   target_here offset b e =
       ap (target_at offset) pair_at
       ∙ ap (λ b. if b then target_of (token_of (get_or tokens i no_token)) (get_or denotes i None) else target_at offset (zip (map token_of (drop (i + 1) tokens)) (drop (i + 1) denotes))) e
 
   pub places_yes : (entity : ℕ) → denotes_entity entity (get_or denotes i None) ≡ true
-    → places_of entity (zip (map token_of (drop i tokens)) (drop i denotes)) ≡ (get_or tokens i no_token).offset ∷ places_of entity (zip (map token_of (drop (i + 1) tokens)) (drop (i + 1) denotes))
+      → places_of entity (zip (map token_of (drop i tokens)) (drop i denotes)) ≡ (get_or tokens i no_token).offset ∷ places_of entity (zip (map token_of (drop (i + 1) tokens)) (drop (i + 1) denotes))
   places_yes entity e = ap (places_of entity) pair_at ∙ rw e refl
 
   pub places_no : (entity : ℕ) → denotes_entity entity (get_or denotes i None) ≡ false
-    → places_of entity (zip (map token_of (drop i tokens)) (drop i denotes)) ≡ places_of entity (zip (map token_of (drop (i + 1) tokens)) (drop (i + 1) denotes))
+      → places_of entity (zip (map token_of (drop i tokens)) (drop i denotes)) ≡ places_of entity (zip (map token_of (drop (i + 1) tokens)) (drop (i + 1) denotes))
   places_no entity e = ap (places_of entity) pair_at ∙ rw e refl
 
 pub one_place_more : (done grown all rest : List ℕ) (place : ℕ) (here : List ℕ) → done ++ here ≡ all → here ≡ place ∷ rest → grown ≡ done ++ place ∷ [] → grown ++ rest ≡ all

@@ -6,6 +6,7 @@ pub mod Declarations
 pub mod Resolution
 pub mod SmallForm
 pub mod Renaming
+pub mod KeepsMeaning
 pub mod Machine
 pub mod Holding
 pub mod Seen

@@ -9,8 +9,8 @@ use Rattle.cr_small.proofs.renaming.places_of.Goals.{then-denotes_entity+in_ok-p
 pub loop-i-preserved : goal.loop-i-preserved
 loop-i-preserved c =
     elim c.if-denotes_entity.branch [
-      then-denotes_entity+in_ok-push w ↦ subst (λ v. v.items ++ renaming.places_of c.args.entity (zip (map token_of (drop (c.loop-i.i + 1) c.args.tokens.now)) (drop (c.loop-i.i + 1) c.args.denotes.now)) ≡ renaming.places_of c.args.entity (zip (map token_of c.args.tokens.now) c.args.denotes.now)) (sym w.places-is)
-        (one_place_more c.loop-i.places.items w.push.new.self.items _ _ _ _ c.loop-i.invariant (places_yes c.args.tokens.now c.args.denotes.now c.loop-i.i (omega arith) (omega (arith, c.requires)) c.args.entity (sym c.denotes_entity.ensures ∙ w.if-denotes_entity.true)) w.in_ok-push.ensures.items)
-    | else-denotes_entity w ↦ subst (λ v. v.items ++ renaming.places_of c.args.entity (zip (map token_of (drop (c.loop-i.i + 1) c.args.tokens.now)) (drop (c.loop-i.i + 1) c.args.denotes.now)) ≡ renaming.places_of c.args.entity (zip (map token_of c.args.tokens.now) c.args.denotes.now)) (sym w.places-is)
-        (no_place_more c.loop-i.places.items _ _ _ c.loop-i.invariant (places_no c.args.tokens.now c.args.denotes.now c.loop-i.i (omega arith) (omega (arith, c.requires)) c.args.entity (sym c.denotes_entity.ensures ∙ w.if-denotes_entity.false)))
+      | then-denotes_entity+in_ok-push w ↦ subst (λ v. v.items ++ renaming.places_of c.args.entity (zip (map token_of (drop (c.loop-i.i + 1) c.args.tokens.now)) (drop (c.loop-i.i + 1) c.args.denotes.now)) ≡ renaming.places_of c.args.entity (zip (map token_of c.args.tokens.now) c.args.denotes.now)) (sym w.places-is)
+          (one_place_more c.loop-i.places.items w.push.new.self.items _ _ _ _ c.loop-i.invariant (places_yes c.args.tokens.now c.args.denotes.now c.loop-i.i (omega arith) (omega (arith, c.requires)) c.args.entity (sym c.denotes_entity.ensures ∙ w.if-denotes_entity.true)) w.in_ok-push.ensures.items)
+      | else-denotes_entity w ↦ subst (λ v. v.items ++ renaming.places_of c.args.entity (zip (map token_of (drop (c.loop-i.i + 1) c.args.tokens.now)) (drop (c.loop-i.i + 1) c.args.denotes.now)) ≡ renaming.places_of c.args.entity (zip (map token_of c.args.tokens.now) c.args.denotes.now)) (sym w.places-is)
+          (no_place_more c.loop-i.places.items _ _ _ c.loop-i.invariant (places_no c.args.tokens.now c.args.denotes.now c.loop-i.i (omega arith) (omega (arith, c.requires)) c.args.entity (sym c.denotes_entity.ensures ∙ w.if-denotes_entity.false)))
     ]

@@ -1,0 +1,210 @@
+-- A rename to a name that a text doesn't have keeps the meaning of the text.
+use Rattle.std.proofs.Common.{◌≡◌, ◌⊎◌, inl, inr, ℕ, ◌+◌, ◌-◌, ◌<◌, ◌≤◌, Bool, true, false, ◌||◌, List, [], ◌∷◌, ◌++◌, length, map, slice_get, Option, Some, None, refl, sym, ap, ◌∙◌, subst, arith, zero, suc}
+use Rattle.std.specs.Prelude.{if◌then◌else◌, bytes_eq, ◌↔◌}
+use Rattle.std.specs.List.{list_any, zip}
+use Rattle.std.specs.Option.{option_map}
+use Rattle.std.proofs.lemmas.Option.{slice_get-map}
+use Rattle.std.proofs.lemmas.List.{length-map}
+use Rattle.cr_base.specs.Substitution.{shifted, substituted}
+use Rattle.cr_small.specs.Tokens.{Token, cut}
+use Rattle.cr_small.specs.Terminals.{is_name, terminal_of}
+use Rattle.cr_small.specs.Tree.{External, leaves, parts, Derives}
+use Rattle.cr_small.specs.Resolution.{file_scope, resolved}
+use Rattle.cr_small.specs.SmallForm.{IsSmallForm, IsWellFormed}
+use Rattle.cr_small.specs.Renaming.{Target, target_at, places_of, denotes_entity, has_text}
+use Rattle.cr_small.specs.KeepsMeaning.{is_place, renamed_token, Key, external, at, key_of_token, key_of, AreLinked, KeepsMeaning, RenamingKeepsMeaning}
+use Rattle.cr_small.specs.declared.terminal.Terminal.TheVariants as terminal
+use Rattle.cr_small.specs.declared.grammar.Part.{Part}
+use Rattle.cr_small.specs.declared.binder.Denotation.{Denotation}
+use Rattle.cr_small.proofs.Flat.{bool_cases, bytes_eq-refl, bytes_eq-true}
+use Rattle.cr_small.proofs.Cuts.{InOrder}
+use Rattle.cr_small.proofs.Names.{AllSpelled, TextsFrom, text_of, texts-from, well-spelled, target-spelled, same-length, derived-length}
+use Rattle.cr_small.proofs.Pairs.{resolves-length}
+use Rattle.cr_small.proofs.Spacing.{IsWord, layout-cut}
+use Rattle.cr_small.proofs.Edited.{layout-order}
+use Rattle.cr_small.proofs.Moved.{Each, Each-map, Each-get, HasText, PlacedAs, order-from, layout-texts, tokens-renamed, placed-text}
+use Rattle.cr_small.proofs.Renames.{AreRenamed, AllFresh, IsFresh, text_behind, walk-follows}
+use Rattle.cr_small.proofs.Links.{AreAlike, PairsAlike, pairs-alike, alike-at}
+use Rattle.cr_small.proofs.Spelling.{NameIf, NamesAt, well-named, target-name, word-of-name, terminal-of-name}
+
+-- tokens at one offset are one
+distinct : (ts : List Token) (from end : ℕ) (i j : ℕ) (t u : Token) → InOrder from ts end → Each HasText ts → slice_get ts i ≡ Some t → slice_get ts j ≡ Some u → t.offset ≡ u.offset → i ≡ j
+distinct [] from end i j t u order texts h k e = let no : ⊥ = cc in absurd no
+distinct (x ∷ xs) from end zero zero t u order texts h k e = refl
+distinct (x ∷ xs) from end zero (suc j) t u order texts h k e =
+    let same : x ≡ t = cc in
+    let behind = Each-get (λ v. x.offset + length x.text ≤ v.offset) xs j u (order-from xs (x.offset + length x.text) end order.1) k in
+    absurd (omega (arith, ap (λ z. z.offset) same, texts.0))
+distinct (x ∷ xs) from end (suc i) zero t u order texts h k e =
+    let same : x ≡ u = cc in
+    let behind = Each-get (λ v. x.offset + length x.text ≤ v.offset) xs i t (order-from xs (x.offset + length x.text) end order.1) h in
+    absurd (omega (arith, ap (λ z. z.offset) same, texts.0))
+distinct (x ∷ xs) from end (suc i) (suc j) t u order texts h k e = ap suc (distinct xs (x.offset + length x.text) end i j t u order.1 texts.1 h k e)
+
+text_of-get : (ts : List Token) (i : ℕ) (t : Token) → slice_get ts i ≡ Some t → text_of ts i ≡ t.text
+text_of-get [] i t h = let no : ⊥ = cc in absurd no
+text_of-get (x ∷ xs) zero t h = let same : x ≡ t = cc in ap (λ z. z.text) same
+text_of-get (x ∷ xs) (suc i) t h = text_of-get xs i t h
+
+fresh-each : (new : List ℕ) (ts : List Token) → has_text new ts ≡ false → Each (λ t. bytes_eq t.text new ≡ false) ts
+fresh-each new [] h = tt
+fresh-each new (t ∷ ts) h = by (bytes_eq t.text new) refl h (fresh-each new ts)
+  where
+    by : (b : Bool) → bytes_eq t.text new ≡ b → (b || has_text new ts) ≡ false → (has_text new ts ≡ false → Each (λ t. bytes_eq t.text new ≡ false) ts) → Each (λ t. bytes_eq t.text new ≡ false) (t ∷ ts)
+    by true e g rest = let no : ⊥ = cc in absurd no
+    by false e g rest = (e, rest g)
+
+module _ (f : ℕ → List ℕ) (entity : ℕ) (new : List ℕ) (old_word : IsWord (f entity)) (new_word : IsWord new) (places : List ℕ) where
+  abbrev after : List Token → List Token
+  after ts = map (renamed_token places (f entity) new) ts
+
+  abbrev Placed : List Token → List (Option Denotation) → Type 0
+  Placed ts ds = PlacedAs f entity new old_word new_word places ts ds
+
+  spelled-each : (ts : List Token) (ds : List (Option Denotation)) → length ds ≡ length ts → Placed ts ds → AllSpelled f (zip ts ds) → Each (λ t. is_place places t.offset ≡ true → t.text ≡ f entity) ts
+  spelled-each [] ds n p all = tt
+  spelled-each (t ∷ ts) [] n p all = absurd (omega arith)
+  spelled-each (t ∷ ts) (d ∷ ds) n p all = (λ h. same-length f entity t d all.0 (sym p.0 ∙ h), spelled-each ts ds (omega arith) p.1 all.1)
+
+  -- a renamed token is what it was in the grammar
+  terminals-kept : (ts : List Token) (ds : List (Option Denotation)) → length ds ≡ length ts → Placed ts ds → NamesAt ts ds → is_name new ≡ true → map (λ t. terminal_of t.text) (after ts) ≡ map (λ t. terminal_of t.text) ts
+  terminals-kept [] ds n p names new_name = refl
+  terminals-kept (t ∷ ts) [] n p names new_name = absurd (omega arith)
+  terminals-kept (t ∷ ts) (d ∷ ds) n p names new_name =
+      ap (λ x. x ∷ map (λ t. terminal_of t.text) (after ts)) (by (is_place places t.offset) refl d names.0 p.0)
+      ∙ ap (λ l. terminal_of t.text ∷ l) (terminals-kept ts ds (omega arith) p.1 names.1 new_name)
+    where
+      by : (b : Bool) → is_place places t.offset ≡ b → (d : Option Denotation) → NameIf t d → is_place places t.offset ≡ denotes_entity entity d → terminal_of (if is_place places t.offset then new else t.text) ≡ terminal_of t.text
+      by false e d name h = ap (λ b. terminal_of (if b then new else t.text)) e
+      by true e None name h = let no : true ≡ false = sym e ∙ h in let bad : ⊥ = cc in absurd bad
+      by true e (Some d) name h = ap (λ b. terminal_of (if b then new else t.text)) e ∙ terminal-of-name new new_name ∙ sym name
+
+  are-renamed : (ts : List Token) (ps : List Part) (ds : List (Option Denotation)) → length ds ≡ length ts → length ps ≡ length ts → Placed ts ds → AreRenamed f entity new (zip ts ps) ds (zip (after ts) ps)
+  are-renamed [] ps [] n m p = refl
+  are-renamed [] ps (d ∷ ds) n m p = absurd (omega arith)
+  are-renamed (t ∷ ts) ps [] n m p = absurd (omega arith)
+  are-renamed (t ∷ ts) [] (d ∷ ds) n m p = absurd (omega arith)
+  are-renamed (t ∷ ts) (q ∷ ps) (d ∷ ds) n m p = (ap (λ b. if b then new else t.text) p.0, refl, are-renamed ts ps ds (omega arith) (omega arith) p.1)
+
+  all-fresh : (ts : List Token) (ps : List Part) → Each (λ t. bytes_eq t.text new ≡ false) ts → AllFresh f entity new (zip ts ps)
+  all-fresh [] ps e = tt
+  all-fresh (t ∷ ts) [] e = tt
+  all-fresh (t ∷ ts) (p ∷ ps) e = (e.0, all-fresh ts ps e.1)
+
+  -- the key of an entity before and after
+  key-found : (ts : List Token) (d : Denotation) (k : Key) → key_of ts d ≡ Some k → (t : Token) × (slice_get ts d.token ≡ Some t) × (k ≡ key_of_token d.external t)
+  key-found ts d k h = by (slice_get ts d.token) refl h
+    where
+      by : (o : Option Token) → slice_get ts d.token ≡ o → option_map (key_of_token d.external) o ≡ Some k → (t : Token) × (slice_get ts d.token ≡ Some t) × (k ≡ key_of_token d.external t)
+      by None e g = let no : ⊥ = cc in absurd no
+      by (Some t) e g = (t, e, let same : key_of_token d.external t ≡ k = cc in sym same)
+
+  key-after : (ts : List Token) (d : Denotation) (t : Token) → slice_get ts d.token ≡ Some t → key_of (after ts) d ≡ Some (key_of_token d.external (renamed_token places (f entity) new t))
+  key-after ts d t h = ap (option_map (key_of_token d.external)) (slice_get-map (renamed_token places (f entity) new) ts d.token ∙ ap (option_map (renamed_token places (f entity) new)) h)
+
+  key-before : (ts : List Token) (d : Denotation) (u : Token) → slice_get (after ts) d.token ≡ Some u → (t : Token) × (slice_get ts d.token ≡ Some t) × (renamed_token places (f entity) new t ≡ u)
+  key-before ts d u h = by (slice_get ts d.token) refl (sym (slice_get-map (renamed_token places (f entity) new) ts d.token) ∙ h)
+    where
+      by : (o : Option Token) → slice_get ts d.token ≡ o → option_map (renamed_token places (f entity) new) o ≡ Some u → (t : Token) × (slice_get ts d.token ≡ Some t) × (renamed_token places (f entity) new t ≡ u)
+      by None e g = let no : ⊥ = cc in absurd no
+      by (Some t) e g = (t, e, cc)
+
+  -- entities of one key have one key afterwards
+  keys-follow : (ts : List Token) (d e : Denotation) (t u : Token) (x y : Bool) → d.external ≡ x → e.external ≡ y → AreAlike f entity new d e → (f d.token ≡ t.text) → (f e.token ≡ u.text)
+      → slice_get ts d.token ≡ Some t → slice_get ts e.token ≡ Some u → key_of_token x t ≡ key_of_token y u → key_of_token x (renamed_token places (f entity) new t) ≡ key_of_token y (renamed_token places (f entity) new u)
+  keys-follow ts d e t u true true p q alike m n h k same =
+      let names : t.text ≡ u.text = cc in
+      let one = alike p q (m ∙ names ∙ sym n) in
+      let v : Some t ≡ Some u = sym h ∙ ap (slice_get ts) one ∙ k in
+      let w : t ≡ u = cc in
+      ap (λ z. key_of_token true (renamed_token places (f entity) new z)) w
+  keys-follow ts d e t u true false p q alike m n h k same = let no : ⊥ = cc in absurd no
+  keys-follow ts d e t u false true p q alike m n h k same = let no : ⊥ = cc in absurd no
+  keys-follow ts d e t u false false p q alike m n h k same =
+      let offsets : t.offset ≡ u.offset = cc in
+      ap (λ o. at (shifted places (length (f entity)) (length new) o)) offsets
+
+  text-back : (t u : Token) → (is_place places t.offset ≡ true → t.text ≡ f entity) → (is_place places u.offset ≡ true → u.text ≡ f entity) → bytes_eq t.text new ≡ false → bytes_eq u.text new ≡ false
+      → (renamed_token places (f entity) new t).text ≡ (renamed_token places (f entity) new u).text → t.text ≡ u.text
+  text-back t u p q m n same = by (is_place places t.offset) refl (is_place places u.offset) refl same
+    where
+      by : (a : Bool) → is_place places t.offset ≡ a → (b : Bool) → is_place places u.offset ≡ b → (if a then new else t.text) ≡ (if b then new else u.text) → t.text ≡ u.text
+      by true e true g s = p e ∙ sym (q g)
+      by true e false g s = let no : true ≡ false = sym (bytes_eq-refl new) ∙ ap (λ z. bytes_eq z new) s ∙ n in let bad : ⊥ = cc in absurd bad
+      by false e true g s = let no : true ≡ false = sym (bytes_eq-refl new) ∙ ap (λ z. bytes_eq z new) (sym s) ∙ m in let bad : ⊥ = cc in absurd bad
+      by false e false g s = s
+
+  keys-back : (ts : List Token) (end : ℕ) (d e : Denotation) (t u : Token) (x y : Bool) → InOrder 0 (after ts) end → Each HasText (after ts)
+      → (is_place places t.offset ≡ true → t.text ≡ f entity) → (is_place places u.offset ≡ true → u.text ≡ f entity) → bytes_eq t.text new ≡ false → bytes_eq u.text new ≡ false
+      → slice_get ts d.token ≡ Some t → slice_get ts e.token ≡ Some u
+      → key_of_token x (renamed_token places (f entity) new t) ≡ key_of_token y (renamed_token places (f entity) new u) → key_of_token x t ≡ key_of_token y u
+  keys-back ts end d e t u true true order texts p q m n h k same =
+      let names : (renamed_token places (f entity) new t).text ≡ (renamed_token places (f entity) new u).text = cc in
+      ap external (text-back t u p q m n names)
+  keys-back ts end d e t u true false order texts p q m n h k same = let no : ⊥ = cc in absurd no
+  keys-back ts end d e t u false true order texts p q m n h k same = let no : ⊥ = cc in absurd no
+  keys-back ts end d e t u false false order texts p q m n h k same =
+      let offsets : (renamed_token places (f entity) new t).offset ≡ (renamed_token places (f entity) new u).offset = cc in
+      let one = distinct (after ts) 0 end d.token e.token _ _ order texts (slice_get-map (renamed_token places (f entity) new) ts d.token ∙ ap (option_map (renamed_token places (f entity) new)) h) (slice_get-map (renamed_token places (f entity) new) ts e.token ∙ ap (option_map (renamed_token places (f entity) new)) k) offsets in
+      let v : Some t ≡ Some u = sym h ∙ ap (slice_get ts) one ∙ k in
+      let w : t ≡ u = cc in
+      ap (λ z. at z.offset) w
+
+  links-follow : (ts : List Token) (ds : List (Option Denotation)) (i j : ℕ) → f ≡ text_of ts → PairsAlike f entity new ds → AreLinked ts ds i j → AreLinked (after ts) ds i j
+  links-follow ts ds i j is pairs (d, e, at_i, at_j, k, one, other) =
+      let t = key-found ts d k one in
+      let u = key-found ts e k other in
+      let alike = alike-at f entity new ds i j d e pairs at_i at_j in
+      let same = keys-follow ts d e t.0 u.0 d.external e.external refl refl alike (ap (λ g. g d.token) is ∙ text_of-get ts d.token t.0 t.1) (ap (λ g. g e.token) is ∙ text_of-get ts e.token u.0 u.1) t.1 u.1 (sym t.2 ∙ u.2) in
+      (d, e, at_i, at_j, key_of_token d.external (renamed_token places (f entity) new t.0), key-after ts d t.0 t.1, key-after ts e u.0 u.1 ∙ ap (λ z. Some z) (sym same))
+
+  links-back : (ts : List Token) (ds : List (Option Denotation)) (i j end : ℕ) → InOrder 0 (after ts) end → Each HasText (after ts) → Each (λ t. is_place places t.offset ≡ true → t.text ≡ f entity) ts → Each (λ t. bytes_eq t.text new ≡ false) ts
+      → AreLinked (after ts) ds i j → AreLinked ts ds i j
+  links-back ts ds i j end order texts spelled fresh (d, e, at_i, at_j, k, one, other) =
+      let v = key-found (after ts) d k one in
+      let w = key-found (after ts) e k other in
+      let t = key-before ts d v.0 v.1 in
+      let u = key-before ts e w.0 w.1 in
+      let now : key_of_token d.external (renamed_token places (f entity) new t.0) ≡ key_of_token e.external (renamed_token places (f entity) new u.0) =
+      ap (key_of_token d.external) t.2 ∙ sym v.2 ∙ w.2 ∙ ap (key_of_token e.external) (sym u.2) in
+      let same = keys-back ts end d e t.0 u.0 d.external e.external order texts
+      (Each-get (λ t. is_place places t.offset ≡ true → t.text ≡ f entity) ts d.token t.0 spelled t.1) (Each-get (λ t. is_place places t.offset ≡ true → t.text ≡ f entity) ts e.token u.0 spelled u.1)
+      (Each-get (λ t. bytes_eq t.text new ≡ false) ts d.token t.0 fresh t.1) (Each-get (λ t. bytes_eq t.text new ≡ false) ts e.token u.0 fresh u.1) t.1 u.1 now in
+      (d, e, at_i, at_j, key_of_token d.external t.0, ap (option_map (key_of_token d.external)) t.1, ap (option_map (key_of_token e.external)) u.1 ∙ ap (λ z. Some z) (sym same))
+
+pub keeping : RenamingKeepsMeaning
+keeping bytes new denotes offset target small here new_name fresh_name =
+    let ts = cut 0 bytes in
+    let f = text_of ts in
+    let tree = small.1.0 in
+    let well = small.1.1 in
+    let all = well-spelled ts tree denotes well in
+    let named = target-spelled f (zip ts denotes) offset target all here in
+    let names = well-named ts tree denotes well in
+    let old_word : IsWord (f target.entity) = subst IsWord (sym named) (word-of-name target.name (target-name ts denotes offset target names here)) in
+    let new_word = word-of-name new new_name in
+    let n = resolves-length ts denotes small in
+    let places = places_of target.entity (zip ts denotes) in
+    let cuts = tokens-renamed f target.entity new old_word new_word bytes denotes n all in
+    let placed = placed-text f target.entity new old_word new_word bytes denotes n all in
+    let fresh = fresh-each new ts fresh_name in
+    let spelled = spelled-each f target.entity new old_word new_word places ts denotes n placed all in
+    let m = derived-length ts tree well.0 in
+    let texts = texts-from ts (parts tree) f 0 (λ k. ap f (let e : 0 + k ≡ k = omega arith in e)) in
+    let walk = walk-follows f target.entity new (zip ts (parts tree)) 0 file_scope denotes (zip (after f target.entity new old_word new_word places ts) (parts tree)) tt (all-fresh f target.entity new old_word new_word places ts (parts tree) fresh) texts
+    (are-renamed f target.entity new old_word new_word places ts (parts tree) denotes n m placed) well.1 in
+    let pairs = pairs-alike f target.entity new (zip ts (parts tree)) 0 file_scope denotes tt (all-fresh f target.entity new old_word new_word places ts (parts tree) fresh) texts well.1 in
+    let edited = substituted places (length (f target.entity)) new bytes in
+    let laid = layout-cut edited 0 in
+    let order : InOrder 0 (after f target.entity new old_word new_word places ts) (0 + length edited) = subst (λ l. InOrder 0 l (0 + length edited)) cuts (layout-order (cut 0 edited) 0 edited laid) in
+    let has : Each HasText (after f target.entity new old_word new_word places ts) = subst (Each HasText) cuts (layout-texts (cut 0 edited) 0 edited laid) in
+    let kept : KeepsMeaning ts (after f target.entity new old_word new_word places ts) places (f target.entity) new = record {
+      tokens = refl;
+      spelled = λ i t h p. Each-get (λ t. is_place places t.offset ≡ true → t.text ≡ f target.entity) ts i t spelled h p;
+      tree = tree;
+      denotes = denotes;
+      was_well_formed = well;
+      is_well_formed = (terminals-kept f target.entity new old_word new_word places ts denotes n placed names new_name ∙ well.0, walk);
+      links = λ i j. (links-follow f target.entity new old_word new_word places ts denotes i j refl pairs, links-back f target.entity new old_word new_word places ts denotes i j (0 + length edited) order has spelled fresh);
+    } in
+    subst (λ old. KeepsMeaning ts (cut 0 (substituted places (length old) new bytes)) places old new) named (subst (λ l. KeepsMeaning ts l places (f target.entity) new) (sym cuts) kept)
