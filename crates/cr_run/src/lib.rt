@@ -9,6 +9,6 @@ mod refusal;
 mod report;
 mod top;
 
-pub use laws::the_outcome_is_one;
+pub use laws::{an_accepted_rename_keeps_the_meaning, the_outcome_is_one};
 pub use refusal::Refusal;
 pub use top::crename_serial;

@@ -2,15 +2,22 @@
 ghost use Rattle.std.specs.Prelude.{◌≡◌, ◌≢◌, ◌⊎◌, ◌++◌, List, ℕ, map, string_bytes, Some, codes};
 ghost use Rattle.cr_world.specs.Outside.{Files, Rose};
 ghost use Rattle.cr_run.specs.Outcome.{IsOutcome, Outcome, accepts, refuses, Rename};
+ghost use Rattle.cr_run.specs.Keeps.{Keeps};
 ghost use Rattle.cr_run.specs.Top.{Gained, GainedFront, Tells, Holds, IsDecided, MayRead, NoneRose, files_after, report, decided_status, line_of};
 
-use crate::laws::the_outcome_is_one;
+use crate::laws::{an_accepted_rename_keeps_the_meaning, the_outcome_is_one};
 use crate::plan::plan;
 use crate::refusal::{refuse, tell};
 use cr_world::{DoneEnd, Sink, Tree};
 use std::alloc::Global;
 
-/// Does what the words ask for, and gives the status.
+/// Renames one name in one file, and gives the status.
+///
+/// `words` are those of the command line without the program's name: `SOURCE --offset N --new-name NAME`.
+/// The status is 0 where the rename was done: its report and the edited text are written to `out`. It is 2
+/// where the words are others, 4 where the file couldn't be read, 6 where no name stands at the offset (in
+/// bytes from 0), 17 where no memory was found, 18 where `out` failed, and 20 where the file or the names
+/// aren't of the small form that is built so far. In each of these `err` gets one line.
 pub fn crename_serial<T: Tree, O: Sink, E: Sink>(
     alloc: Global,
     words: &[String],
@@ -25,6 +32,11 @@ pub fn crename_serial<T: Tree, O: Sink, E: Sink>(
         × Holds (T.files tree.new) (files_after (map string_bytes words.now) files r)
         × Gained (O.bytes out.old) (O.bytes out.new) (report (map string_bytes words.now) files r) }
     ensures silent { result ≡ 0 → err.new ≡ err.old }
+
+    // The edited file has the same tokens but for the name, the same tree, and each name denotes what it denoted.
+    ensures keeps { result ≡ 0 → (files : Files) → T.files tree.old ≡ Some files
+        → (r : Rename) → IsOutcome (map string_bytes words.now) files (accepts r)
+        → Keeps (map string_bytes words.now) files r }
 
     // A refusal is the one that the words and the files decide, and its line is told.
     ensures refused { IsDecided result → (files : Files) → T.files tree.old ≡ Some files
@@ -63,6 +75,7 @@ pub fn crename_serial<T: Tree, O: Sink, E: Sink>(
         → (result ≡ decided_status o) ⊎ (result ≡ 17) }
 {
     the_outcome_is_one();
+    an_accepted_rename_keeps_the_meaning();
     match plan(alloc, words, tree) {
         Ok(report) => match out.write(&report) {
             DoneEnd::Done => 0,

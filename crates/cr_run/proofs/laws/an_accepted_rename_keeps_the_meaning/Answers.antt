@@ -1,0 +1,5 @@
+use Rattle.cr_run.proofs.KeepsLemmas.{accepted-keeps}
+use Rattle.cr_run.proofs.laws.an_accepted_rename_keeps_the_meaning.Goals as goal
+
+pub returns : goal.returns
+returns c = accepted-keeps c.renaming_keeps_the_meaning.ensures
