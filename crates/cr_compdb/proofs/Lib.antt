@@ -1,3 +1,4 @@
 pub mod Listing
 pub mod Json
 pub mod Refusals
+pub mod Quoting

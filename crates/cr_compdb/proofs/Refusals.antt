@@ -1,5 +1,5 @@
 -- Where a value is refused, and where it is not.
-use Rattle.std.proofs.Common.{◌≡◌, ℕ, ◌+◌, Bool, true, false, List, [], ◌∷◌, length, refl, sym, ap, ◌∙◌, subst, arith, rules, tests, ◌<◌, ◌≤◌, ◌≢◌}
+use Rattle.std.proofs.Common.{◌≡◌, ℕ, ◌+◌, true, false, List, [], ◌∷◌, length, refl, sym, ap, ◌∙◌, subst, arith, rules, tests, ◌<◌, ◌≤◌, ◌≢◌}
 use Rattle.std.specs.Prelude.{Option, Some, None, Result, Ok, Err, is_some, codes, nat_lt, IfOk, IfErr}
 use Rattle.serde_json.specs.Data.{Data, Items, Members}
 use Rattle.serde_json.specs.Find.{as_object, as_array}

@@ -1,5 +1,5 @@
 -- Our own rule for the words of a `command`, which is part of how a shell reads one.
-use Rattle.std.specs.Prelude.{ℕ, ◌==◌, Bool, true, false, not, ◌||◌, List, [], ◌∷◌, ◌++◌, map, filter, Option, Some, None, option_map, if◌then◌else◌}
+use Rattle.std.specs.Prelude.{ℕ, ◌==◌, Bool, true, false, ◌||◌, List, [], ◌∷◌, map, filter, Option, Some, None, option_map, if◌then◌else◌}
 use Rattle.std.specs.List.{filter_map, slice_split}
 use Rattle.cr_compdb.specs.declared.command.Piece.{Piece}
 use Rattle.cr_compdb.specs.declared.command.Piece.TheVariants as piece

@@ -6,7 +6,6 @@ use Rattle.serde_json.specs.Data.{Data, Items, no_items, item}
 use Rattle.serde_json.specs.Read.{read}
 use Rattle.serde_json.specs.Find.{get, as_str, as_array, as_object}
 use Rattle.cr_compdb.specs.declared.entry.Entry.{Entry}
-use Rattle.cr_compdb.specs.declared.entry.FieldName.{FieldName}
 use Rattle.cr_compdb.specs.declared.entry.FieldName.TheVariants as field
 use Rattle.cr_compdb.specs.declared.entry.DbFault.{DbFault}
 use Rattle.cr_compdb.specs.declared.entry.DbFault.TheVariants as fault

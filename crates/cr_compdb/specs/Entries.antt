@@ -61,7 +61,7 @@ entry_at number home file settings =
       quote_dirs = directories home (codes "-iquote") settings;
       dirs = directories home (codes "-I") settings;
       system_dirs = directories home (codes "-isystem") settings;
-      words = words_text settings
+      words = words_text settings;
     })
     else entry.Skipped number (normalised home file)
 

@@ -1,5 +1,5 @@
 -- Our own rule for which words of a compiler's command are read, and how.
-use Rattle.std.specs.Prelude.{ℕ, ◌==◌, ◌&&◌, ◌||◌, Bool, true, false, List, [], ◌∷◌, ◌++◌, take, drop, Option, None, Some, bytes_eq, codes, nat_eq, nat_lt, if◌then◌else◌}
+use Rattle.std.specs.Prelude.{ℕ, ◌==◌, ◌&&◌, ◌||◌, Bool, false, List, [], ◌∷◌, ◌++◌, take, drop, Option, None, Some, bytes_eq, codes, nat_eq, nat_lt, if◌then◌else◌}
 use Rattle.std.specs.List.{list_any, slice_split, starts_with}
 use Rattle.cr_compdb.specs.declared.settings.Setting.{Setting}
 

@@ -72,7 +72,10 @@ fn push_word(alloc: Global, words: &mut Vec<Text>, run: &[Piece]) -> Result<(), 
 fn bytes_of(alloc: Global, run: &[Piece]) -> Result<Vec<u8>, OutOfMemory>
     ensures { IfOk result (λ bytes. bytes.items ≡ filter_map spec.byte_of run.now) }
 {
-    let bytes = run.iter().filter_map(|piece| byte_of(*piece)).collect(alloc)?;
+    let bytes = run
+        .iter()
+        .filter_map(|piece| byte_of(*piece))
+        .collect(alloc)?;
     Ok(bytes)
 }
 

@@ -12,7 +12,7 @@ use cr_base::{OutOfMemory, Text};
 use serde_json::Value;
 use std::alloc::Global;
 
-/// A database lists at most so many entries.
+// A database lists at most so many entries.
 const MAX_ENTRIES: usize = 16_384;
 
 /// Reads a compilation database, in the form of Clang's JSON Compilation Database: an array of objects

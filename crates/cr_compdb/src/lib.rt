@@ -5,6 +5,8 @@ mod command;
 mod database;
 mod entry;
 mod settings;
+#[cfg(test)]
+mod tests;
 mod unit;
 
 pub use database::read_db;

@@ -1,5 +1,4 @@
 use Rattle.std.proofs.Common.{refl, rules}
-use Rattle.std.specs.Str.{IsUtf8}
 use Rattle.cr_compdb.proofs.Json.{json_read, json_refused}
 use Rattle.cr_compdb.proofs.database.read_json.Goals as goal
 

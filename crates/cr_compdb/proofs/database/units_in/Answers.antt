@@ -1,4 +1,4 @@
-use Rattle.std.proofs.Common.{rules, arith}
+use Rattle.std.proofs.Common.{arith}
 use Rattle.cr_compdb.proofs.Refusals.{too_many, few, gives_same}
 use Rattle.cr_compdb.proofs.database.units_in.Goals as goal
 
