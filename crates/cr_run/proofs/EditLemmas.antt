@@ -29,8 +29,8 @@ report_is files path bytes old new (o ∷ os) found some =
 
 -- the report that was made of the edits that were made
 pub edited_is : (files : Files) (path bytes old new places offsets first second edited shown report : List ℕ) → files path ≡ Some bytes → 0 < length places → offsets ≡ places
-  → first ≡ offsets → second ≡ offsets → shown ≡ edited → edited ≡ substituted first (length old) new bytes → report ≡ report_text old new (places_at path second) path shown
-  → report ≡ report_of files (record { old = old; new = new; places = places_at path places })
+    → first ≡ offsets → second ≡ offsets → shown ≡ edited → edited ≡ substituted first (length old) new bytes → report ≡ report_text old new (places_at path second) path shown
+    → report ≡ report_of files (record { old = old; new = new; places = places_at path places })
 edited_is files path bytes old new places offsets first second edited shown report found some are one two three made told =
     told
     ∙ ap (λ os. report_text old new (places_at path os) path shown) (two ∙ are)

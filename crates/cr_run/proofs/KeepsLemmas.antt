@@ -22,7 +22,7 @@ no_refusal r status text e = cc
 -- what a name that isn't refused is
 fine-name : (new : List ℕ) → is_refused new ≡ false → is_name new ≡ true
 unfolding is_refused is_name
-fine-name new h = by (is_identifier new) (is_keyword new) (bytes_eq new (codes "defined") ) (bytes_eq new (codes "main")) (is_reserved new) h
+fine-name new h = by (is_identifier new) (is_keyword new) (bytes_eq new (codes "defined")) (bytes_eq new (codes "main")) (is_reserved new) h
   where
     by : (a b c d e : Bool) → (not a || b || c || d || e) ≡ false → (a && not b) ≡ true
     by true false c d e h = refl
@@ -38,7 +38,7 @@ fine-name new h = by (is_identifier new) (is_keyword new) (bytes_eq new (codes "
 
 module _ (law : RenamingKeepsMeaning) (files : Files) (r : Rename) (request : Request) (path bytes : List ℕ) (there : files path ≡ Some bytes) where
   of-target : (denotes : List (Option Denotation)) → IsSmallForm (cut 0 bytes) denotes → is_refused request.new ≡ false → has_text request.new (cut 0 bytes) ≡ false
-    → (o : Option Target) → target_at request.offset (zip (cut 0 bytes) denotes) ≡ o → accepts r ≡ of_target request path (zip (cut 0 bytes) denotes) o → KeepsFile files r path
+      → (o : Option Target) → target_at request.offset (zip (cut 0 bytes) denotes) ≡ o → accepts r ≡ of_target request path (zip (cut 0 bytes) denotes) o → KeepsFile files r path
   of-target denotes small fine fresh None at e = absurd (no_refusal r _ _ e)
   of-target denotes small fine fresh (Some target) at e = by (bytes_eq target.name (codes "main")) e
     where
@@ -49,13 +49,16 @@ module _ (law : RenamingKeepsMeaning) (files : Files) (r : Rename) (request : Re
           let places = places_of target.entity (zip (cut 0 bytes) denotes) in
           let kept = law bytes request.new denotes request.offset target small at (fine-name request.new fine) fresh in
           let same : offsets_in path (places_at path places) ≡ places = offsets_in-places path places in
-          subst (λ r. KeepsFile files r path) is
-            (bytes, substituted places (length target.name) request.new bytes, there
-            , ap (λ os. option_map (substituted os (length target.name) request.new) (files path)) same ∙ ap (option_map (substituted places (length target.name) request.new)) there
-            , subst (λ os. KeepsMeaning (cut 0 bytes) (cut 0 (substituted places (length target.name) request.new bytes)) os target.name request.new) (sym same) kept)
+          subst (λ r. KeepsFile files r path) is (
+            bytes,
+            substituted places (length target.name) request.new bytes,
+            there,
+            ap (λ os. option_map (substituted os (length target.name) request.new) (files path)) same ∙ ap (option_map (substituted places (length target.name) request.new)) there,
+            subst (λ os. KeepsMeaning (cut 0 bytes) (cut 0 (substituted places (length target.name) request.new bytes)) os target.name request.new) (sym same) kept,
+          )
 
   of-small : (denotes : List (Option Denotation)) → IsSmallForm (cut 0 bytes) denotes → (a b : Bool) → is_refused request.new ≡ a → has_text request.new (cut 0 bytes) ≡ b
-    → accepts r ≡ (if (a || b) then unbuilt path else of_target request path (zip (cut 0 bytes) denotes) (target_at request.offset (zip (cut 0 bytes) denotes))) → KeepsFile files r path
+      → accepts r ≡ (if (a || b) then unbuilt path else of_target request path (zip (cut 0 bytes) denotes) (target_at request.offset (zip (cut 0 bytes) denotes))) → KeepsFile files r path
   of-small denotes small true true fine fresh e = absurd (no_refusal r _ _ e)
   of-small denotes small true false fine fresh e = absurd (no_refusal r _ _ e)
   of-small denotes small false true fine fresh e = absurd (no_refusal r _ _ e)

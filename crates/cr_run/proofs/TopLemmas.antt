@@ -26,8 +26,8 @@ pub complete_ok : OneOutcome → (words : List (List ℕ)) (files : Files) (o : 
 complete_ok law words files o r h k = ap decided_status (law words files (accepts r) o h k)
 
 pub complete_err : {V : Type 0} → OneOutcome → (view : V → List ℕ) (words : List (List ℕ)) (files : Files) (o : Outcome) (r : Refusal) (Caused : List ℕ → Type 0)
-  → Decides view (IsOutcome words files) files (Err r) → HasReadCause {V = V} Caused (Err r) → ((path : List ℕ) → Caused path → ⊥) → IsOutcome words files o
-  → (status_of r ≡ decided_status o) ⊎ (status_of r ≡ 17)
+    → Decides view (IsOutcome words files) files (Err r) → HasReadCause {V = V} Caused (Err r) → ((path : List ℕ) → Caused path → ⊥) → IsOutcome words files o
+    → (status_of r ≡ decided_status o) ⊎ (status_of r ≡ 17)
 complete_err law view words files o refusal.Usage Caused d h fine k = inl (ap decided_status (law words files _ o d k))
 complete_err law view words files o (refusal.ReadFault path) Caused d h fine k = absurd (fine path h)
 complete_err law view words files o refusal.NoSymbol Caused d h fine k = inl (ap decided_status (law words files _ o d k))

@@ -15,3 +15,6 @@ pub use laws::{
 };
 pub use renaming::{Target, has_text, places_of, target_at};
 pub use token::{Token, cut};
+
+#[cfg(test)]
+mod tests;

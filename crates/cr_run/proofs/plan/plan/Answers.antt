@@ -17,8 +17,8 @@ returns-in-Bytes-clause-decided g c files told =
     let same = c.in_ok-path.ensures ∙ ap (λ b. normalised b c.in-Some.request.source.now) c.empty.ensures in
     let within : length c.deref.result.now ≤ 16777216 = omega (arith, ap length c.deref.ensures.value, c.in-Bytes.ensures.handed) in
     decides_more (λ v. v.items) (IsTextOutcome request c.in_ok-path.path (cut 0 c.deref.result.now)) (IsOutcome (map string_bytes c.args.words.now) files) files c.rename.result
-      (λ o h. outcome_at (map string_bytes c.args.words.now) request files c.in_ok-path.path (Some c.deref.result.now) o c.in-Some.ensures same found (fits request c.in_ok-path.path c.deref.result.now o within h))
-      (c.rename.ensures.decided files found)
+    (λ o h. outcome_at (map string_bytes c.args.words.now) request files c.in_ok-path.path (Some c.deref.result.now) o c.in-Some.ensures same found (fits request c.in_ok-path.path c.deref.result.now o within h))
+    (c.rename.ensures.decided files found)
 
 pub returns-in-Absent-clause-decided : goal.returns-in-Absent-clause-decided
 returns-in-Absent-clause-decided g c files told =

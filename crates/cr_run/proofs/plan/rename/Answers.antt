@@ -26,15 +26,16 @@ returns-clause-decided c files found =
     let request = request_of c.args.request.now in
     let target = target_of_code c.in-Some-target_at.target in
     let small : IsSmallForm (cut 0 c.args.bytes.now) c.in-Some.denotes.items =
-      subst (λ ts. IsSmallForm ts c.in-Some.denotes.items) tokens (subst (λ o. Resolves (map token_of c.deref.result.now) (option_map (λ v. v.items) o)) c.in-Some.is c.in_ok-denotes.ensures.resolves) in
+    subst (λ ts. IsSmallForm ts c.in-Some.denotes.items) tokens (subst (λ o. Resolves (map token_of c.deref.result.now) (option_map (λ v. v.items) o)) c.in-Some.is c.in_ok-denotes.ensures.resolves) in
     let pairs : zip (map token_of c.deref-3.result.now) c.deref-4.result.now ≡ zip (cut 0 c.args.bytes.now) c.in-Some.denotes.items =
-      ap (λ ts. zip ts c.deref-4.result.now) tokens_3 ∙ ap (zip (cut 0 c.args.bytes.now)) c.deref-4.ensures.value in
+    ap (λ ts. zip ts c.deref-4.result.now) tokens_3 ∙ ap (zip (cut 0 c.args.bytes.now)) c.deref-4.ensures.value in
     let at : Some target ≡ target_at request.offset (zip (cut 0 c.args.bytes.now) c.in-Some.denotes.items) =
-      ap (option_map target_of_code) (sym c.in-Some-target_at.is) ∙ c.target_at.ensures ∙ ap (target_at request.offset) pairs in
-    (rename_of request c.args.path (zip (cut 0 c.args.bytes.now) c.in-Some.denotes.items) target
-    , any_target request c.args.path (cut 0 c.args.bytes.now) c.in-Some.denotes.items small
-        (sym c.is_refused.ensures ∙ c.if-is_refused.false)
-        (sym (c.has_text.ensures ∙ ap (has_text request.new) tokens_2) ∙ c.if-has_text.false)
-        target at
-        (sym (c.eq.ensures ∙ ap (bytes_eq c.in-Some-target_at.target.name.now) c.as_slice.ensures) ∙ c.if-eq.false)
-    , c.in_ok-report.ensures files found ∙ ap (λ ds. report_of files (rename_of request c.args.path (zip (cut 0 c.args.bytes.now) ds) target)) c.deref-6.ensures.value)
+    ap (option_map target_of_code) (sym c.in-Some-target_at.is) ∙ c.target_at.ensures ∙ ap (target_at request.offset) pairs in (
+      rename_of request c.args.path (zip (cut 0 c.args.bytes.now) c.in-Some.denotes.items) target,
+      any_target request c.args.path (cut 0 c.args.bytes.now) c.in-Some.denotes.items small
+          (sym c.is_refused.ensures ∙ c.if-is_refused.false)
+          (sym (c.has_text.ensures ∙ ap (has_text request.new) tokens_2) ∙ c.if-has_text.false)
+          target at
+          (sym (c.eq.ensures ∙ ap (bytes_eq c.in-Some-target_at.target.name.now) c.as_slice.ensures) ∙ c.if-eq.false),
+      c.in_ok-report.ensures files found ∙ ap (λ ds. report_of files (rename_of request c.args.path (zip (cut 0 c.args.bytes.now) ds) target)) c.deref-6.ensures.value,
+    )

@@ -20,4 +20,4 @@ returns-in-Done-clause-complete g c files told reads replaces faults o h =
 pub returns-clause-complete : goal.returns-clause-complete
 returns-clause-complete g c files told reads replaces faults o h =
     subst (λ s. (s ≡ decided_status o) ⊎ (s ≡ 17)) (sym c.refuse.ensures.status)
-      (complete_err {V = Vec ℕ Global} c.the_outcome_is_one.ensures (λ v. v.items) (map string_bytes c.args.words.now) files o c.in-Err.refusal _ (c.in-Err.ensures.decided files told) c.in-Err.ensures.cause (λ path caused. reads path caused.1) h)
+    (complete_err {V = Vec ℕ Global} c.the_outcome_is_one.ensures (λ v. v.items) (map string_bytes c.args.words.now) files o c.in-Err.refusal _ (c.in-Err.ensures.decided files told) c.in-Err.ensures.cause (λ path caused. reads path caused.1) h)
