@@ -1,8 +1,9 @@
 use crate::crename_serial;
 use cr_base::PathText;
-use cr_world::{MemSink, MemTree};
+use cr_world::{DirTree, MemSink, MemTree};
 use std::alloc::{AllocError, Global};
 use std::test::Fail;
+use std::{env, fs, process};
 
 const TWO_FUNCTIONS: &[u8] = b"int foo(void){return 0;}\nint main(void){return foo();}\n";
 
@@ -125,5 +126,31 @@ fn faults_of_the_outside_have_their_status_and_line(rt: HostRuntime) -> Result<(
     let status = crename_serial(alloc, &words, &mut tree, &mut out, &mut err);
     assert_eq!(rt; status, 2);
     assert_eq!(rt; err.bytes(), b"crename: usage: words\n".as_slice());
+    Ok(())
+}
+
+#[test]
+fn a_real_file_is_renamed_in_the_report_alone(rt: HostRuntime) -> Result<(), Fail> {
+    let alloc = rt.alloc();
+    let temp = env::temp_dir(&rt)?;
+    let number = process::id(rt.process());
+    let base = format!(in alloc; "{}/cr_run-{number}", temp.display())?;
+    fs::create_dir(&rt, base.as_str())?;
+    let path = format!(in alloc; "{base}/a.c")?;
+    fs::write(&rt, path.as_str(), TWO_FUNCTIONS)?;
+    let list = [path.as_str(), "--offset", "47", "--new-name", "bar"];
+    let words = words_of(alloc, &list)?;
+    let mut tree = DirTree::new(&rt, alloc);
+    let mut out = MemSink::new(alloc);
+    let mut err = MemSink::new(alloc);
+    let status = crename_serial(alloc, &words, &mut tree, &mut out, &mut err);
+    let mut want = format!(in alloc; "renamed foo to bar\nunits 1, skipped 0, files 1, edits 2\nedit {path} 4\nedit {path} 47\nfile {path} 55\n")?;
+    want.push_str("int bar(void){return 0;}\nint main(void){return bar();}\n\n")?;
+    assert_eq!(rt; status, 0);
+    assert_eq!(rt; out.bytes(), want.as_bytes());
+    assert_eq!(rt; err.bytes(), b"".as_slice());
+    let now = fs::read_to_string(&rt, path.as_str())?;
+    assert_eq!(rt; now.as_bytes(), TWO_FUNCTIONS);
+    fs::remove_dir_all(&rt, base.as_str())?;
     Ok(())
 }
