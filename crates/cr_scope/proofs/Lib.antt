@@ -1,0 +1,4 @@
+pub mod Declared
+pub mod Moves
+pub mod Paths
+pub mod Numbers

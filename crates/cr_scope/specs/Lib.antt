@@ -1,0 +1,5 @@
+pub mod Declarations
+pub mod Kept
+pub mod Linkage
+pub mod Meaning
+pub mod Redeclaration
