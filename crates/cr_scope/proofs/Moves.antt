@@ -1,25 +1,14 @@
 -- How the calls keep what is kept.
 use Rattle.std.proofs.Common.{◌≡◌, ℕ, zero, suc, ◌+◌, ◌-◌, ◌<◌, ◌≤◌, inl, inr, List, [], ◌∷◌, ◌++◌, length, get_or, take, map, refl, sym, ◌∙◌, ap, subst, arith, length-append, ◌≢◌}
 use Rattle.std.specs.List.{AllByRecursion}
-use Rattle.std.specs.Prelude.{option_map}
 use Rattle.std.proofs.Math.Seq.{get_or-append_seam, take-append_seam}
 use Rattle.std.proofs.lemmas.List.{get_or_append_left}
 use Rattle.std.proofs.lemmas.List.Elements.{recursion_from_All, All-from_recursion}
 use Rattle.std.proofs.lemmas.Bool.{cases_lt}
-use Rattle.cr_base.specs.declared.Name.{Name}
-use Rattle.cr_scope.specs.declared.Space.{Space}
 use Rattle.cr_scope.specs.declared.Kept.{Kept}
-use Rattle.cr_scope.specs.Declarations.{is_prefix, depth_seen, last_deepest, lookup, entered}
-use Rattle.cr_scope.specs.Kept.{path_at, paths_of, entry_of, flat_of, IsKept, stands, found_at}
-use Rattle.cr_scope.proofs.Paths.{grow-end, count, first, path_step, stands_is, same_entries, same_found}
-
-pub looks_up : (P D Q : List ℕ) (cur : ℕ) (E : List Kept) → IsKept P D Q cur E → (s : Space) (name : Name) → option_map (λ x. x.0) (last_deepest 0 (map (found_at D Q s name) E)) ≡ lookup Q s name (map (entry_of (paths_of P)) E)
-looks_up P D Q cur E ok s name =
-    let F : List ℕ → Type 0 = λ q. (k : ℕ) → k < length D → stands D q k ≡ is_prefix (path_at (paths_of P) k) q in
-    let all : (k : ℕ) → k < length D → stands D (path_at (paths_of P) cur) k ≡ is_prefix (path_at (paths_of P) k) (path_at (paths_of P) cur) =
-    λ k h. (let a : cur < length D = ok.entered in let n : length D ≡ 1 + length P = ok.count in stands_is P ok.earlier D cur k (omega arith) (omega arith) (ok.depth k h)) in
-    ap (λ l. option_map (λ x. x.0) (last_deepest 0 l))
-    (same_found (paths_of P) D Q (length D) s name E (subst F ok.path all) ok.depth (recursion_from_All (λ k. k.scope < length D) E ok.within))
+use Rattle.cr_scope.specs.Declarations.{entered}
+use Rattle.cr_scope.specs.Kept.{path_at, paths_of, entry_of, flat_of, IsKept}
+use Rattle.cr_scope.proofs.Paths.{grow-end, count, first, path_step, same_entries}
 
 -- one more at the end
 pub at_end : (xs : List ℕ) (x : ℕ) (F : ℕ → ℕ → Type 0) → ((s : ℕ) → s < length xs → F s (get_or xs s 0)) → F (length xs) x → (s : ℕ) → s < length (xs ++ x ∷ []) → F s (get_or (xs ++ x ∷ []) s 0)
@@ -148,19 +137,3 @@ left_kept P D Q cur E Q' up v ok h n q u =
     let a : IsKept P D (take (length Q - 1) Q) (get_or P (cur - 1) 0) E = leave_kept P D Q cur E ok h in
     subst (λ x. IsKept P D x up E) (sym (q ∙ ap (λ z. take (z - 1) Q) n))
     (subst (λ x. IsKept P D (take (length Q - 1) Q) x E) (sym (u ∙ any_default P (cur - 1) up 0 (leave_index P D Q cur E ok h))) a)
-
-pub found_flat : (P D Q : List ℕ) (cur : ℕ) (E : List Kept) (s : Space) (name : Name) (D' Q' : List ℕ) (E' : List Kept) → IsKept P D Q cur E → D' ≡ D → Q' ≡ Q → E' ≡ E → option_map (λ x. x.0) (last_deepest 0 (map (found_at D' Q' s name) E')) ≡ lookup Q s name (map (entry_of (paths_of P)) E)
-found_flat P D Q cur E s name D' Q' E' ok d q e =
-    ap (λ z. option_map (λ x. x.0) (last_deepest 0 (map (found_at z Q' s name) E'))) d
-    ∙ ap (λ z. option_map (λ x. x.0) (last_deepest 0 (map (found_at D z s name) E'))) q
-    ∙ ap (λ z. option_map (λ x. x.0) (last_deepest 0 (map (found_at D Q s name) z))) e
-    ∙ looks_up P D Q cur E ok s name
-
--- what is found in equal lists is what is seen
-pub found_list : (P D Q : List ℕ) (cur : ℕ) (E : List Kept) (s : Space) (name : Name) (D' Q' : List ℕ) (E' : List Kept) → IsKept P D Q cur E → D' ≡ D → Q' ≡ Q → E' ≡ E → map (found_at D' Q' s name) E' ≡ map (depth_seen Q s name) (map (entry_of (paths_of P)) E)
-found_list P D Q cur E s name D' Q' E' ok d q e =
-    let F : List ℕ → Type 0 = λ z. (k : ℕ) → k < length D → stands D z k ≡ is_prefix (path_at (paths_of P) k) z in
-    let all : (k : ℕ) → k < length D → stands D (path_at (paths_of P) cur) k ≡ is_prefix (path_at (paths_of P) k) (path_at (paths_of P) cur) =
-    λ k h. (let a : cur < length D = ok.entered in let n : length D ≡ 1 + length P = ok.count in stands_is P ok.earlier D cur k (omega arith) (omega arith) (ok.depth k h)) in
-    ap (λ z. map (found_at z Q' s name) E') d ∙ ap (λ z. map (found_at D z s name) E') q ∙ ap (λ z. map (found_at D Q s name) z) e
-    ∙ same_found (paths_of P) D Q (length D) s name E (subst F ok.path all) ok.depth (recursion_from_All (λ k. k.scope < length D) E ok.within)

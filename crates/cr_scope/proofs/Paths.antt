@@ -1,15 +1,13 @@
 -- The paths of scopes.
-use Rattle.std.proofs.Common.{◌≡◌, ℕ, zero, suc, ◌+◌, ◌-◌, ◌<◌, ◌≤◌, ◌⊎◌, inl, inr, Bool, true, false, cond, ◌&&◌, ◌||◌, eqb, leb, Option, Some, None, List, [], ◌∷◌, ◌++◌, length, get_or, take, map, refl, sym, ◌∙◌, ap, subst, arith, length-append, add-zero, add-one}
+use Rattle.std.proofs.Common.{◌≡◌, ℕ, zero, suc, ◌+◌, ◌-◌, ◌<◌, ◌≤◌, ◌⊎◌, inl, inr, Bool, true, false, ◌&&◌, ◌||◌, eqb, leb, List, [], ◌∷◌, ◌++◌, length, get_or, take, map, refl, sym, ◌∙◌, ap, subst, arith, length-append, add-zero, add-one}
 use Rattle.std.proofs.Math.Seq.{get_or-append_seam}
 use Rattle.std.proofs.lemmas.List.{get_or_append_left}
 use Rattle.std.proofs.lemmas.Bool.{cases_order, ne_eqb, eqb-true, eq-eqb, leb-true, le-leb}
 use Rattle.std.specs.List.{AllByRecursion}
-use Rattle.cr_base.specs.declared.Name.{Name}
-use Rattle.cr_scope.specs.declared.Space.{Space}
 use Rattle.cr_scope.specs.declared.Kept.{Kept}
-use Rattle.cr_scope.specs.Declarations.{is_prefix, same_space, same_name, depth_seen}
+use Rattle.cr_scope.specs.Declarations.{is_prefix}
 use Rattle.cr_scope.specs.Redeclaration.{same_path}
-use Rattle.cr_scope.specs.Kept.{path_at, grow, paths_of, entry_of, stands, found_at}
+use Rattle.cr_scope.specs.Kept.{path_at, grow, paths_of, entry_of, stands}
 
 pub and_both : (a b : Bool) → (a && b) ≡ true → (a ≡ true) × (b ≡ true)
 and_both true true h = (refl, refl)
@@ -217,19 +215,9 @@ module _ (parents : List ℕ) (earlier : (s : ℕ) → s < length parents → ge
       ap (λ z. z && eqb (get_or Q (length P) 0) (suc s)) a ∙ b)
 
 -- entries that see their scopes' paths as before
-pub same_entries : (ps qs : List (List ℕ)) (n : ℕ) (es : List Kept) → ((s : ℕ) → s < n → path_at qs s ≡ path_at ps s) → AllByRecursion (λ k. k.scope < n) es → map (entry_of qs) es ≡ map (entry_of ps) es
-same_entries ps qs n [] h w = refl
-same_entries ps qs n (k ∷ es) h w =
-    let e : path_at qs k.scope ≡ path_at ps k.scope = h k.scope w.0 in
-    let t : map (entry_of qs) es ≡ map (entry_of ps) es = same_entries ps qs n es h w.1 in
-    ap (λ p. record { path = p; decl = k.decl } ∷ map (entry_of qs) es) e ∙ ap (λ l. entry_of ps k ∷ l) t
-
--- what is found is what is seen
-pub same_found : (ps : List (List ℕ)) (depths present : List ℕ) (n : ℕ) (s : Space) (name : Name) (es : List Kept) → ((k : ℕ) → k < n → stands depths present k ≡ is_prefix (path_at ps k) present) → ((k : ℕ) → k < n → get_or depths k 0 ≡ length (path_at ps k)) → AllByRecursion (λ k. k.scope < n) es → map (found_at depths present s name) es ≡ map (depth_seen present s name) (map (entry_of ps) es)
-same_found ps depths present n s name [] f g w = refl
-same_found ps depths present n s name (k ∷ es) f g w =
-    let named : Bool = same_space k.decl.space s && same_name k.decl.name name in
-    let rest : List (Option ℕ) = map (found_at depths present s name) es in
-    ap (λ b. cond (b && named) (Some (get_or depths k.scope 0)) None ∷ rest) (f k.scope w.0)
-    ∙ ap (λ d. cond (is_prefix (path_at ps k.scope) present && named) (Some d) None ∷ rest) (g k.scope w.0)
-    ∙ ap (λ l. depth_seen present s name (entry_of ps k) ∷ l) (same_found ps depths present n s name es f g w.1)
+pub same_entries : (ps' qs : List (List ℕ)) (n : ℕ) (es : List Kept) → ((s : ℕ) → s < n → path_at qs s ≡ path_at ps' s) → AllByRecursion (λ k. k.scope < n) es → map (entry_of qs) es ≡ map (entry_of ps') es
+same_entries ps' qs n [] h w = refl
+same_entries ps' qs n (k ∷ es) h w =
+    let e : path_at qs k.scope ≡ path_at ps' k.scope = h k.scope w.0 in
+    let t : map (entry_of qs) es ≡ map (entry_of ps') es = same_entries ps' qs n es h w.1 in
+    ap (λ p. record { path = p; decl = k.decl } ∷ map (entry_of qs) es) e ∙ ap (λ l. entry_of ps' k ∷ l) t

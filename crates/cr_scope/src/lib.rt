@@ -4,18 +4,20 @@
 ghost use Rattle.std.specs.Prelude.{◌≡◌, ◌≢◌, ◌<◌, ◌≤◌, ◌&&◌, ◌+◌, ◌++◌, ◌∷◌, [], true, false, not, length, take, map, option_map, slice_get, vec_len, vec_capacity, position, All, Some, None, IsTrue, ◌↔◌, IfOk, IfSome, OnOk, OnErr, IsErrOf, MatchOption};
 ghost use Rattle.std.specs.List.{list_any};
 ghost use Rattle.cr_scope.specs.Declarations.{at_file_scope, entered, entered_again, IsInside, left, declared, IsDeclNo, decl_at, depth_at, same_space, deeper, last_deepest, lookup, is_at, numbers_at, visible, number};
+ghost use Rattle.cr_scope.specs.Meaning.{LookupMeans, LookupIsFirst, VisibleMeans};
 ghost use Rattle.cr_scope.specs.Linkage.{has_linkage, linkage_or_external, linkage_seen, entry_at, linkage_of, linked};
 ghost use Rattle.cr_scope.specs.Redeclaration.{may_repeat, are_opposite, is_redeclared};
 ghost use Rattle.cr_scope.specs.Kept.{stands, found_at, scope_for, clashes_kept, is_linked_kept, rest_from, IsLastAt, IsNext, depths_seen};
 
+#[cfg(test)]
+mod tests;
 mod visible;
 
 pub use cr_base::Kind;
-pub use visible::VisibleDecls;
-
 use cr_base::{Name, OutOfMemory};
 use std::alloc::{AllocFailed, Global};
 use std::marker::Model;
+pub use visible::VisibleDecls;
 
 /// The number of a declaration in its `Scopes`.
 #[derive(Clone, Copy, Debug, PartialEq, Eq)]
@@ -100,6 +102,21 @@ impl Model for Scopes {
 
     ghost invariant = { λ a. IsKept a.parents.items a.depths.items a.present.items a.current a.entries.items };
 }
+
+/// What `Scopes::lookup` gives is the last visible declaration in the deepest scope.
+pub fn lookup_means()
+    ensures { LookupMeans }
+{}
+
+/// What `Scopes::lookup` gives is the first of what `Scopes::lookup_all` gives.
+pub fn lookup_is_first()
+    ensures { LookupIsFirst }
+{}
+
+/// What `Scopes::lookup_all` gives are the visible declarations of the name and space, and no others.
+pub fn visible_means()
+    ensures { VisibleMeans }
+{}
 
 // Adds a number for which there is room.
 fn put(numbers: &mut Vec<usize>, number: usize)
@@ -234,7 +251,9 @@ fn any_clash(entries: &[Kept], scope: usize, d: &Decl) -> bool
 fn first_linked(entries: &[Kept], name: Name) -> Option<usize>
     ensures { result ≡ position (is_linked_kept name) entries.now }
 {
-    entries.iter().position(|k| is_linked(k.decl.linkage) && k.decl.name.0 == name.0)
+    entries
+        .iter()
+        .position(|k| is_linked(k.decl.linkage) && k.decl.name.0 == name.0)
 }
 
 // The scope that a declaration enters: for a label the outermost one below file scope.
@@ -267,6 +286,7 @@ impl Scopes {
     pub fn enter(&mut self) -> Result<ScopeNo, OutOfMemory>
         ensures number { IfOk result (λ s. s.0 ≡ length self.old.scopes) }
         ensures ok { OnOk result (self.new ≡ entered self.old) }
+        ensures inside { OnOk result (self.new.present ≢ []) }
         ensures err { OnErr result (self.new ≡ self.old) }
     {
         self.parents.reserve(1)?;
@@ -284,6 +304,7 @@ impl Scopes {
     pub fn enter_again(&mut self, s: ScopeNo) -> Result<(), OutOfMemory>
         requires { IsInside self.old s }
         ensures ok { OnOk result (self.new ≡ entered_again self.old s) }
+        ensures inside { OnOk result (self.new.present ≢ []) }
         ensures err { OnErr result (self.new ≡ self.old) }
     {
         self.present.push(s.0)?;
@@ -350,9 +371,10 @@ impl Scopes {
     /// All that a name could mean here, hidden declarations too: from the deepest scope outward, and of one scope the
     /// last declaration first.
     pub fn lookup_all(&self, space: Space, name: Name) -> VisibleDecls<'_>
-        ensures { result ≡ visible self.now.present space name self.now.entries }
+        ensures value { result ≡ visible self.now.present space name self.now.entries }
+        ensures given { All (λ n. n < length self.now.entries) result }
     {
-        VisibleDecls::new(self, space, name, self.present.len())
+        VisibleDecls::new(self, space, name, self.present_depth())
     }
 
     /// The first declaration of a name with linkage, visible or not.
@@ -376,12 +398,20 @@ impl Scopes {
     {
         let at_file_scope = self.present.is_empty();
         if given_static {
-            return if at_file_scope { Linkage::Internal } else { Linkage::None };
+            return if at_file_scope {
+                Linkage::Internal
+            } else {
+                Linkage::None
+            };
         }
         if given_extern || function {
             return self.linkage_seen(name);
         }
-        if at_file_scope { Linkage::External } else { Linkage::None }
+        if at_file_scope {
+            Linkage::External
+        } else {
+            Linkage::None
+        }
     }
 
     // The linkage of the visible declaration of a name, external where there is none or it has none.
@@ -398,7 +428,11 @@ impl Scopes {
     fn is_redeclared(&self, d: &Decl) -> bool
         ensures { result ≡ is_redeclared self.now d.now }
     {
-        any_clash(&self.entries, scope_for(&self.present, self.current, d.space), d)
+        any_clash(
+            &self.entries,
+            scope_for(&self.present, self.current, d.space),
+            d,
+        )
     }
 
     fn linked_number(&self, name: Name) -> Option<usize>
@@ -411,6 +445,12 @@ impl Scopes {
         ensures { result ≡ length self.now.entries }
     {
         self.entries.len()
+    }
+
+    fn present_depth(&self) -> usize
+        ensures { result ≡ length self.now.present }
+    {
+        self.present.len()
     }
 
     // The depth of a declaration, where it is seen under a name.

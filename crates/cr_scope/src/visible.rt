@@ -55,7 +55,9 @@ impl<'a> Iterator for VisibleDecls<'a> {
     ghost remaining = { item_count (λ s. s) };
 
     fn next(&mut self) -> Option<DeclNo> {
-        let (depth, n) = self.scopes.next_visible(self.space, self.name, self.depth, self.end)?;
+        let (depth, n) = self
+            .scopes
+            .next_visible(self.space, self.name, self.depth, self.end)?;
         self.depth = depth;
         self.end = n;
         Some(DeclNo(n))

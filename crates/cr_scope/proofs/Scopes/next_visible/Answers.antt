@@ -10,5 +10,5 @@ loop-n-preserved c =
     let all = length-map (depth_seen f.present c.args.space c.args.name) f.entries in (
       omega arith,
       c.loop-n.invariant.1
-      ∙ rest_outward c.loop-n.depth (c.loop-n.depth - 1) c.loop-n.end _ _ (omega arith) (c.len-end.ensures ∙ sym all) c.in-None.ensures,
+          ∙ rest_outward c.loop-n.depth (c.loop-n.depth - 1) c.loop-n.end _ _ (omega arith) (c.len-end.ensures ∙ sym all) c.in-None.ensures,
     )
