@@ -1,9 +1,9 @@
 //! Scopes, and the declarations that are visible in them (C11 6.2.1 to 6.2.3).
 #![tactic(auto)]
 
-ghost use Rattle.std.specs.Prelude.{◌≡◌, ◌≢◌, ◌<◌, ◌≤◌, ◌&&◌, ◌+◌, ◌++◌, ◌∷◌, [], true, false, not, length, take, map, option_map, slice_get, vec_len, vec_capacity, position, All, Some, None, IsTrue, ◌↔◌, IfOk, IfSome, OnOk, OnErr, IsErrOf, MatchOption};
+ghost use Rattle.std.specs.Prelude.{◌≡◌, ◌≢◌, ◌<◌, ◌≤◌, ◌++◌, ◌∷◌, [], false, length, take, option_map, slice_get, vec_len, vec_capacity, position, All, IsTrue, ◌↔◌, IfOk, IfSome, OnOk, OnErr, IsErrOf, MatchOption};
 ghost use Rattle.std.specs.List.{list_any};
-ghost use Rattle.cr_scope.specs.Declarations.{at_file_scope, entered, entered_again, IsInside, left, declared, IsDeclNo, decl_at, depth_at, same_space, deeper, last_deepest, lookup, is_at, numbers_at, visible, number};
+ghost use Rattle.cr_scope.specs.Declarations.{at_file_scope, entered, entered_again, IsInside, left, declared, IsDeclNo, decl_at, depth_at, same_space, deeper, lookup, is_at, numbers_at, visible, number};
 ghost use Rattle.cr_scope.specs.Meaning.{LookupMeans, LookupIsFirst, VisibleMeans};
 ghost use Rattle.cr_scope.specs.Linkage.{has_linkage, linkage_or_external, linkage_seen, entry_at, linkage_of, linked};
 ghost use Rattle.cr_scope.specs.Redeclaration.{may_repeat, are_opposite, is_redeclared};
