@@ -92,58 +92,60 @@ fn is_basic(w: SpecWord) -> bool
     )
 }
 
-// The lists of type specifiers that are words (C11 6.7.2p2).
+// The lists of type specifiers that are words (C11 6.7.2p2), each in one order.
+const PERMITTED: &[&[SpecWord]] = &[
+    &[SpecWord::Void],
+    &[SpecWord::Bool],
+    &[SpecWord::VaList],
+    &[SpecWord::Signed],
+    &[SpecWord::Unsigned],
+    &[SpecWord::Char],
+    &[SpecWord::Signed, SpecWord::Char],
+    &[SpecWord::Unsigned, SpecWord::Char],
+    &[SpecWord::Int],
+    &[SpecWord::Signed, SpecWord::Int],
+    &[SpecWord::Unsigned, SpecWord::Int],
+    &[SpecWord::Short],
+    &[SpecWord::Signed, SpecWord::Short],
+    &[SpecWord::Unsigned, SpecWord::Short],
+    &[SpecWord::Int, SpecWord::Short],
+    &[SpecWord::Signed, SpecWord::Int, SpecWord::Short],
+    &[SpecWord::Unsigned, SpecWord::Int, SpecWord::Short],
+    &[SpecWord::Long],
+    &[SpecWord::Signed, SpecWord::Long],
+    &[SpecWord::Unsigned, SpecWord::Long],
+    &[SpecWord::Int, SpecWord::Long],
+    &[SpecWord::Signed, SpecWord::Int, SpecWord::Long],
+    &[SpecWord::Unsigned, SpecWord::Int, SpecWord::Long],
+    &[SpecWord::Long, SpecWord::Long],
+    &[SpecWord::Signed, SpecWord::Long, SpecWord::Long],
+    &[SpecWord::Unsigned, SpecWord::Long, SpecWord::Long],
+    &[SpecWord::Int, SpecWord::Long, SpecWord::Long],
+    &[
+        SpecWord::Signed,
+        SpecWord::Int,
+        SpecWord::Long,
+        SpecWord::Long,
+    ],
+    &[
+        SpecWord::Unsigned,
+        SpecWord::Int,
+        SpecWord::Long,
+        SpecWord::Long,
+    ],
+    &[SpecWord::Float],
+    &[SpecWord::Complex, SpecWord::Float],
+    &[SpecWord::Double],
+    &[SpecWord::Complex, SpecWord::Double],
+    &[SpecWord::Long, SpecWord::Double],
+    &[SpecWord::Complex, SpecWord::Long, SpecWord::Double],
+];
+
 #[tactic(auto, unfolding(crate::specs::Specifiers::permitted))]
 fn permitted() -> &'static [&'static [SpecWord]]
     ensures { map (λ ws. ws.now) result.now ≡ permitted }
 {
-    &[
-        &[SpecWord::Void],
-        &[SpecWord::Bool],
-        &[SpecWord::VaList],
-        &[SpecWord::Signed],
-        &[SpecWord::Unsigned],
-        &[SpecWord::Char],
-        &[SpecWord::Signed, SpecWord::Char],
-        &[SpecWord::Unsigned, SpecWord::Char],
-        &[SpecWord::Int],
-        &[SpecWord::Signed, SpecWord::Int],
-        &[SpecWord::Unsigned, SpecWord::Int],
-        &[SpecWord::Short],
-        &[SpecWord::Signed, SpecWord::Short],
-        &[SpecWord::Unsigned, SpecWord::Short],
-        &[SpecWord::Int, SpecWord::Short],
-        &[SpecWord::Signed, SpecWord::Int, SpecWord::Short],
-        &[SpecWord::Unsigned, SpecWord::Int, SpecWord::Short],
-        &[SpecWord::Long],
-        &[SpecWord::Signed, SpecWord::Long],
-        &[SpecWord::Unsigned, SpecWord::Long],
-        &[SpecWord::Int, SpecWord::Long],
-        &[SpecWord::Signed, SpecWord::Int, SpecWord::Long],
-        &[SpecWord::Unsigned, SpecWord::Int, SpecWord::Long],
-        &[SpecWord::Long, SpecWord::Long],
-        &[SpecWord::Signed, SpecWord::Long, SpecWord::Long],
-        &[SpecWord::Unsigned, SpecWord::Long, SpecWord::Long],
-        &[SpecWord::Int, SpecWord::Long, SpecWord::Long],
-        &[
-            SpecWord::Signed,
-            SpecWord::Int,
-            SpecWord::Long,
-            SpecWord::Long,
-        ],
-        &[
-            SpecWord::Unsigned,
-            SpecWord::Int,
-            SpecWord::Long,
-            SpecWord::Long,
-        ],
-        &[SpecWord::Float],
-        &[SpecWord::Complex, SpecWord::Float],
-        &[SpecWord::Double],
-        &[SpecWord::Complex, SpecWord::Double],
-        &[SpecWord::Long, SpecWord::Double],
-        &[SpecWord::Complex, SpecWord::Long, SpecWord::Double],
-    ]
+    PERMITTED
 }
 
 fn count(w: SpecWord, words: &[SpecWord]) -> usize
