@@ -1,0 +1,4 @@
+pub mod Guards
+pub mod Derivation
+pub mod Machine
+pub mod Running
