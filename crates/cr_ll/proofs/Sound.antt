@@ -170,12 +170,3 @@ sound {ts} {c} {e} (asks {i} {m = k} {xs} answer m run) h = back_by ts c (AsksAt
 -- a run from the first symbol to the empty stack gives the events of a tree
 pub sound_whole : (ts : List Terminal) (s : Symbol) (xs : List Item) (e : Config) → Run ts (at 0 (s ∷ [])) xs e → e.stack ≡ [] → Whole ts 0 (s ∷ []) xs e.place
 sound_whole ts s xs e run h = found_whole ts 0 (s ∷ []) xs e.place (sound run h)
-
-pub law : (ts : List Terminal) (s : Symbol) (xs : List Item) (j : ℕ) → Run ts (at 0 (s ∷ [])) xs (at j []) ↔ ((tree : Trees) × Derives ts tree 0 (s ∷ []) j × (xs ≡ events tree))
-law ts s xs j = (
-  λ run. (let w : Whole ts 0 (s ∷ []) xs j = sound_whole ts s xs (at j []) run refl in (w.trees, w.derives, w.all)),
-  λ w.
-      let run : Run ts (at 0 (s ∷ [])) (events w.0 ++ []) (at j []) = complete ts w.0 0 (s ∷ []) j [] [] (at j []) w.1 stop in
-      let P : List Item → Type 0 = λ z. Run ts (at 0 (s ∷ [])) z (at j []) in
-      subst P (append-nil (events w.0) ∙ sym w.2) run,
-)

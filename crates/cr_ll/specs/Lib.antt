@@ -2,3 +2,4 @@ pub mod Guards
 pub mod Derivation
 pub mod Machine
 pub mod Running
+pub mod Laws

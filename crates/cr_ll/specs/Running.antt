@@ -1,5 +1,5 @@
 -- What the machine's calls do, by the moves of its configuration.
-use Rattle.std.specs.Prelude.{◌↔◌, Result, Ok, Err, ◌⊎◌, ◌≡◌, ℕ, ◌+◌, ◌<◌, ◌≤◌, Bool, true, Option, Some, None, List, [], ◌∷◌, ◌++◌, drop, length}
+use Rattle.std.specs.Prelude.{Result, Ok, Err, ◌⊎◌, ◌≡◌, ℕ, ◌+◌, ◌<◌, ◌≤◌, Bool, true, Option, Some, None, List, [], ◌∷◌, ◌++◌, drop, length}
 use Rattle.cr_grammar.specs.declared.symbols.NonTerm.{NonTerm}
 use Rattle.cr_grammar.specs.declared.symbols.NonTerm.TheVariants as n
 use Rattle.cr_grammar.specs.declared.symbols.Symbol.{Symbol}
@@ -14,7 +14,7 @@ use Rattle.cr_ll.specs.declared.state.MachineFault.TheVariants.{Syntax, LimitDep
 use Rattle.cr_ll.specs.declared.state.Moved.{Moved}
 use Rattle.cr_ll.specs.declared.state.Moved.TheVariants.{Gave, Opened, Failed}
 use Rattle.cr_ll.specs.declared.stack.TheConstants.{LIMIT}
-use Rattle.cr_ll.specs.Derivation.{Item, Passed, Due, Trees, Derives, events}
+use Rattle.cr_ll.specs.Derivation.{Passed, Due, Asked}
 use Rattle.cr_ll.specs.Machine.{Config, at, Gives, Opens, AsksAt, Ends, Faults, body_at, move, replied, Run}
 
 abbrev pub config_of : State → Config
@@ -59,13 +59,6 @@ Steps ts old (Err f) new =
     (new.fault ≡ Some f) × (new.waits ≡ old.waits) × Run ts (config_of old) [] (config_of new)
     × (((old.fault ≡ Some f) × (new ≡ old)) ⊎ Stops ts (config_of new) f)
 
--- Every tree of the tokens is run, and every run to the empty stack is a tree's.
-abbrev pub EventsAreATrees : Type 0
-EventsAreATrees =
-    (ts : List Terminal) (xs : List Item) (j : ℕ)
-    → Run ts (at 0 (Non n.Unit ∷ [])) xs (at j [])
-    ↔ ((tree : Trees) × Derives ts tree 0 (Non n.Unit ∷ []) j × (xs ≡ events tree))
-
 abbrev pub waiting_on : Option ℕ → List Symbol → Option (NonTerm × ℕ)
 waiting_on (Some k) (Non m ∷ ss) = Some (m, k)
 waiting_on _ _ = None
@@ -74,13 +67,29 @@ waiting_on _ _ = None
 abbrev pub waiting_at : State → Option (NonTerm × ℕ)
 waiting_at m = waiting_on m.waits m.stack
 
--- an ask waits for its reply
-abbrev pub IsAsking : State → Type 0
-IsAsking m = (n : NonTerm) × (k : ℕ) × (waiting_at m ≡ Some (n, k)) × (k < length (rule n)) × (m.refused ≤ k) × (m.fault ≡ None)
+-- an alternative of the topmost nonterminal waits for a reply
+abbrev pub IsWaiting : State → Type 0
+IsWaiting m = (n : NonTerm) × (k : ℕ) × (waiting_at m ≡ Some (n, k)) × (k < length (rule n)) × (m.fault ≡ None)
 
 -- the machine goes on as the answer says, or the stack is full
-abbrev pub Replies : State → Bool → State → Type 0
-Replies old answer new =
+abbrev pub GoesOn : State → Bool → State → Type 0
+GoesOn old answer new =
     (n : NonTerm) × (k : ℕ) × (waiting_at old ≡ Some (n, k)) × (new.waits ≡ None)
     × (((config_of new ≡ replied (config_of old) k answer) × (new.fault ≡ old.fault))
-    ⊎ ((answer ≡ true) × (LIMIT < length (replied (config_of old) k answer).stack) × (new.fault ≡ Some LimitDepth)))
+    ⊎ ((answer ≡ true) × (LIMIT < length (replied (config_of old) k answer).stack) × (config_of new ≡ config_of old) × (new.fault ≡ Some LimitDepth)))
+
+-- The last event was an ask, and it has no reply yet.
+abbrev pub IsAsking : State → Type 0
+IsAsking m = (ts : List Terminal) × (i : ℕ) × (k : ℕ) × (m.waits ≡ Some k) × (move ts (config_of m) ≡ AsksAt i k) × (m.fault ≡ None)
+
+-- The ask has this answer from then on, or the stack would hold too many symbols.
+abbrev pub Replies : State → Bool → State → Type 0
+Replies old answer new =
+    (ts : List Terminal) (i k : ℕ) → old.waits ≡ Some k → move ts (config_of old) ≡ AsksAt i k
+    → (new.waits ≡ None)
+    × ((Run ts (config_of old) (Asked i answer ∷ []) (config_of new) × (new.fault ≡ old.fault))
+    ⊎ ((answer ≡ true) × (LIMIT < length (replied (config_of old) k answer).stack) × (config_of new ≡ config_of old) × (new.fault ≡ Some LimitDepth)))
+
+-- After a fault each step answers it, and nothing changes.
+abbrev pub IsStuck : State → Result Event MachineFault → State → Type 0
+IsStuck old result new = (fault : MachineFault) → old.fault ≡ Some fault → (result ≡ Err fault) × (new ≡ old)

@@ -1,6 +1,6 @@
 //! The moves of the machine.
 ghost use Rattle.std.specs.Prelude.{◌≡◌, ◌+◌, ◌-◌, ◌≤◌, ◌<◌, ◌^◌, ◌∷◌, [], None, Some, IfOk, IfSome, length};
-ghost use Rattle.cr_ll.specs.Running.{IsFresh, OpensTo, Advances, Steps, waiting_at, IsAsking, Replies};
+ghost use Rattle.cr_ll.specs.Running.{IsFresh, OpensTo, Advances, Steps, waiting_at, IsWaiting, GoesOn, IsStuck};
 ghost use Rattle.cr_grammar.specs.Grammar.{rule};
 ghost use Rattle.cr_ll.specs.Machine.{top_of};
 ghost use Rattle.cr_ll.specs.Guards.{terminals};
@@ -113,17 +113,14 @@ fn advance(m: &mut State, names: &NameTable, tokens: &[Tok]) -> Moved
     }
 }
 
-/// The next event, the end, an ask or a fault.
-pub fn step(m: &mut State, names: &NameTable, tokens: &[Tok]) -> Result<Event, MachineFault>
+// Moves up to the next event, the end, an ask or a fault.
+fn run(m: &mut State, names: &NameTable, tokens: &[Tok]) -> Result<Event, MachineFault>
     requires idle { m.old.waits ≡ None }
     requires placed { m.old.place ≤ length tokens.now }
     requires short { length tokens.now ≤ 2 ^ 25 }
     ensures steps { Steps (terminals names.now tokens.now) m.old result m.new }
     ensures placed { m.new.place ≤ length tokens.now }
 {
-    if let Some(fault) = m.fault {
-        return Err(fault);
-    }
     'moves: loop {
         match advance(m, names, tokens) {
             Moved::Gave(e) => return Ok(e),
@@ -133,6 +130,21 @@ pub fn step(m: &mut State, names: &NameTable, tokens: &[Tok]) -> Result<Event, M
                 return Err(fault);
             }
         }
+    }
+}
+
+// The next event, the end, an ask or a fault.
+pub fn step(m: &mut State, names: &NameTable, tokens: &[Tok]) -> Result<Event, MachineFault>
+    requires idle { m.old.waits ≡ None }
+    requires placed { m.old.place ≤ length tokens.now }
+    requires short { length tokens.now ≤ 2 ^ 25 }
+    ensures steps { Steps (terminals names.now tokens.now) m.old result m.new }
+    ensures placed { m.new.place ≤ length tokens.now }
+    ensures stuck { IsStuck m.old result m.new }
+{
+    match m.fault {
+        Some(fault) => Err(fault),
+        None => run(m, names, tokens),
     }
 }
 
@@ -158,10 +170,10 @@ fn after(n: NonTerm, k: usize) -> usize
     if k < alternatives(n).len() { k + 1 } else { 0 }
 }
 
-/// Answers the ask: whether the identifier is a typedef name.
+// Answers the ask: whether the identifier is a typedef name.
 pub fn reply(m: &mut State, typedef_name: bool)
-    requires { IsAsking m.old }
-    ensures { Replies m.old typedef_name m.new }
+    requires { IsWaiting m.old }
+    ensures { GoesOn m.old typedef_name m.new }
 {
     if let Some((n, k)) = waiting(m) {
         m.waits = None;
