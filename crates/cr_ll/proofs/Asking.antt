@@ -1,5 +1,5 @@
 -- An ask comes from an alternative of the topmost nonterminal.
-use Rattle.std.proofs.Common.{◌≡◌, ◌≢◌, ℕ, zero, suc, ◌+◌, ◌<◌, ◌≤◌, Bool, true, false, Option, Some, None, List, [], ◌∷◌, ◌++◌, ◌⊎◌, inl, inr, length, drop, refl, sym, ◌∙◌, ap, subst, arith}
+use Rattle.std.proofs.Common.{◌≡◌, ◌≢◌, ℕ, zero, suc, ◌+◌, ◌<◌, ◌≤◌, Bool, true, false, Option, Some, None, Result, Ok, Err, List, [], ◌∷◌, inl, inr, length, drop, refl, sym, ◌∙◌, ap, subst, arith}
 use Rattle.cr_grammar.specs.declared.symbols.Symbol.{Symbol}
 use Rattle.cr_grammar.specs.declared.symbols.NonTerm.{NonTerm}
 use Rattle.cr_grammar.specs.declared.symbols.Symbol.TheVariants.{Term, Non, Act}
@@ -8,12 +8,15 @@ use Rattle.cr_ll.specs.declared.guards.Verdict.{Verdict}
 use Rattle.cr_ll.specs.declared.guards.Verdict.TheVariants.{Holds, Fails, Asks}
 use Rattle.cr_ll.specs.declared.guards.Choice.{Choice}
 use Rattle.cr_ll.specs.declared.guards.Choice.TheVariants.{Nothing, Takes, Waits}
-use Rattle.cr_ll.specs.Guards.{Terminal, token_at, meets, verdict, ask_at, chosen, choice, IsWithin}
+use Rattle.cr_ll.specs.Guards.{Terminal, token_at, meets, verdict, chosen, choice, IsWithin}
 use Rattle.cr_ll.specs.declared.stack.TheConstants.{LIMIT}
 use Rattle.cr_ll.specs.declared.state.State.{State}
-use Rattle.cr_ll.specs.Derivation.{Item, Asked}
-use Rattle.cr_ll.specs.Machine.{Config, AsksAt, pass, move_by, move_on, move, replied, Run, stop, asks}
-use Rattle.cr_ll.specs.Running.{config_of, waiting_on, waiting_at, IsWaiting, IsAsking, GoesOn, Replies}
+use Rattle.cr_ll.specs.declared.state.Event.{Event}
+use Rattle.cr_ll.specs.declared.state.MachineFault.{MachineFault}
+use Rattle.cr_ll.specs.declared.state.Event.TheVariants.{Token, Act as ActEvent, Ask, Done}
+use Rattle.cr_ll.specs.Derivation.{Asked}
+use Rattle.cr_ll.specs.Machine.{Config, AsksAt, pass, move_by, move_on, replied, replied_on, Run, stop, asks}
+use Rattle.cr_ll.specs.Running.{config_of, waiting_on, IsWaiting, IsAsking, GoesOn, Replies, IsStuck, IsReady, Steps}
 
 pub chosen_within : (v : Verdict) (n : ℕ) (ch : Choice) (all : ℕ) → n < all → IsWithin ch all → IsWithin (chosen v n ch) all
 chosen_within Holds n ch all h w = h
@@ -49,9 +52,13 @@ pub top_on : (ts : List Terminal) (p r : ℕ) (ss : List Symbol) (i k : ℕ) →
 top_on ts p r [] i k h = cc
 top_on ts p r (Term t ∷ ss) i k h = absurd (pass_asks (meets t (token_at ts p)) p ss i k h)
 top_on ts p r (Act a ∷ ss) i k h = cc
-top_on ts p r (Non n ∷ ss) i k h =
-    (n, ss, refl, choice_asks (choice r (drop r (rule n)) (token_at ts p) (token_at ts (p + 1))) p n ss i k
-    (choice_within (drop r (rule n)) r (token_at ts p) (token_at ts (p + 1)) (length (rule n)) (drop_within (rule n) r)) h)
+top_on ts p r (Non n ∷ ss) i k h = (
+  n,
+  ss,
+  refl,
+  choice_asks (choice r (drop r (rule n)) (token_at ts p) (token_at ts (p + 1))) p n ss i k
+      (choice_within (drop r (rule n)) r (token_at ts p) (token_at ts (p + 1)) (length (rule n)) (drop_within (rule n) r)) h,
+)
 
 pub waits_there : (m : State) → IsAsking m → IsWaiting m
 waits_there m a =
@@ -64,7 +71,7 @@ waits_one (Some l) [] n j k e h = cc
 waits_one (Some l) (Term t ∷ ss) n j k e h = cc
 waits_one (Some l) (Act t ∷ ss) n j k e h = cc
 waits_one (Some l) (Non t ∷ ss) n j k e h =
-    let p : (t, l) ≡ (n, j) = cc in
+    let p : ◌≡◌ {A = NonTerm × ℕ} (t, l) (n, j) = cc in
     let q : l ≡ j = ap (λ (z : NonTerm × ℕ). z.1) p in
     let r : l ≡ k = cc in
     sym q ∙ r
@@ -72,10 +79,35 @@ waits_one (Some l) (Non t ∷ ss) n j k e h =
 pub goes_on : (old new : State) (answer : Bool) → GoesOn old answer new → Replies old answer new
 goes_on old new answer g ts i k w m =
     let e : g.1 ≡ k = waits_one old.waits old.stack g.0 g.1 k w g.2 in
-    (g.3, elim g.4 [
+    elim g.4 [
       | inl h ↦
           let c : config_of new ≡ replied (config_of old) k answer = h.0 ∙ ap (λ z. replied (config_of old) z answer) e in
           let P : Config → Type 0 = λ z. Run ts (config_of old) (Asked i answer ∷ []) z in
           inl (subst P (sym c) (asks answer m stop), h.1)
       | inr h ↦ inr (h.0, subst (λ z. LIMIT < length (replied (config_of old) z answer).stack) e h.1, h.2, h.3)
-    ])
+    ]
+
+pub place_stays : (p k : ℕ) (answer : Bool) (ss : List Symbol) → (replied_on p k answer ss).place ≡ p
+place_stays p k answer [] = refl
+place_stays p k answer (Term t ∷ ss) = refl
+place_stays p k answer (Act a ∷ ss) = refl
+place_stays p k true (Non n ∷ ss) = refl
+place_stays p k false (Non n ∷ ss) = refl
+
+pub goes_on_place : (old new : State) (answer : Bool) → GoesOn old answer new → new.place ≡ old.place
+goes_on_place old new answer g = elim g.4 [
+  | inl h ↦ ap (λ (z : Config). z.place) h.0 ∙ place_stays old.place g.1 answer old.stack
+  | inr h ↦ ap (λ (z : Config). z.place) h.2
+]
+
+pub fault_free : (f : Option MachineFault) (old new : State) (i : ℕ) → old.fault ≡ f → IsStuck old (Ok (Ask i)) new → f ≡ None
+fault_free None old new i e s = refl
+fault_free (Some x) old new i e s = (let h : Ok (Ask i) ≡ Err x = (s x e).0 in cc)
+
+pub ready : (ts : List Terminal) (old new : State) (result : Result Event MachineFault) → old.waits ≡ None → IsStuck old result new → Steps ts old result new → IsReady result new
+ready ts old new (Ok (Token i)) idle stuck s = s.1.0 ∙ idle
+ready ts old new (Ok (ActEvent a)) idle stuck s = s.1.0 ∙ idle
+ready ts old new (Ok (Ask i)) idle stuck s =
+    (ts, i, s.1.0, s.1.2, s.1.1, s.1.3 ∙ fault_free old.fault old new i refl stuck)
+ready ts old new (Ok Done) idle stuck s = s.2.0 ∙ idle
+ready ts old new (Err f) idle stuck s = s.1 ∙ idle

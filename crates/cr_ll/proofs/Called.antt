@@ -1,17 +1,14 @@
 -- From calls to runs.
-use Rattle.std.proofs.Common.{◌≡◌, ℕ, Bool, true, Option, Some, None, Result, Ok, Err, List, [], ◌∷◌, ◌++◌, ◌⊎◌, inl, inr, refl, sym, ◌∙◌, ap, subst}
+use Rattle.std.proofs.Common.{◌≡◌, ℕ, Some, None, Ok, Err, List, [], ◌∷◌, ◌++◌, inl, inr, refl, sym, ◌∙◌, ap, subst}
 use Rattle.std.proofs.lemmas.List.{append-nil}
-use Rattle.cr_grammar.specs.declared.symbols.Symbol.{Symbol}
-use Rattle.cr_grammar.specs.declared.symbols.Symbol.TheVariants.{Term, Non, Act}
+use Rattle.cr_grammar.specs.declared.symbols.Symbol.TheVariants.{Non}
 use Rattle.cr_ll.specs.declared.state.State.{State}
-use Rattle.cr_ll.specs.declared.state.Event.{Event}
-use Rattle.cr_ll.specs.declared.state.MachineFault.{MachineFault}
 use Rattle.cr_ll.specs.declared.state.Event.TheVariants.{Token, Act as ActEvent, Ask, Done}
 use Rattle.cr_ll.specs.declared.state.MachineFault.TheVariants.{Syntax, LimitDepth}
 use Rattle.cr_ll.specs.Guards.{Terminal}
-use Rattle.cr_ll.specs.Derivation.{Item, Passed, Due, Asked, Trees, Derives, events}
+use Rattle.cr_ll.specs.Derivation.{Item, Passed, Due, Asked, Derives}
 use Rattle.cr_ll.specs.Machine.{Config, at, Ends, Faults, AsksAt, Opens, move, Run, stop}
-use Rattle.cr_ll.specs.Running.{config_of, IsFresh, IsKept, Steps, Stops, Replies}
+use Rattle.cr_ll.specs.Running.{config_of, IsFresh}
 use Rattle.cr_ll.specs.Laws.{unit, Calls, no_call, gave_token, gave_action, replied_to, EventsAreATrees, NoTreeGoesOn, TreesGoOver, CallsAreATrees, SyntaxEndsAllTrees, DoneStays}
 use Rattle.cr_ll.proofs.Sound.{Whole, sound_whole}
 use Rattle.cr_ll.proofs.Onward.{join, after_fault, after_end, next_opens, tree_run, tree_rest}
@@ -39,7 +36,7 @@ calls_run no_call = stop
 calls_run (gave_token s more) = join s.0 (calls_run more)
 calls_run (gave_action s more) = join s.0 (calls_run more)
 calls_run {ts} {new} (replied_to {asking} {mid} {i} {xs} answer s r f more) =
-    let q : Run ts (config_of asking) (Asked i answer ∷ []) (config_of mid) = elim (r ts i s.1.0 s.1.2 s.1.1).1 [
+    let q : Run ts (config_of asking) (Asked i answer ∷ []) (config_of mid) = elim (r ts i s.1.0 s.1.2 s.1.1) [
       | inl g ↦ g.0
       | inr g ↦ (let e : None ≡ Some LimitDepth = sym f ∙ g.3 in cc)
     ] in

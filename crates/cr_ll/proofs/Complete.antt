@@ -1,5 +1,5 @@
 -- What derives is run: the machine gives a tree's events.
-use Rattle.std.proofs.Common.{◌≡◌, ℕ, zero, suc, ◌+◌, Bool, true, false, List, [], ◌∷◌, ◌++◌, drop, refl, sym, ◌∙◌, ap, subst, append_assoc, add-one, inl, inr, ◌⊎◌}
+use Rattle.std.proofs.Common.{◌≡◌, ℕ, zero, suc, ◌+◌, true, false, List, [], ◌∷◌, ◌++◌, drop, refl, sym, ◌∙◌, ap, subst, append_assoc, add-one, inl, inr}
 use Rattle.cr_grammar.specs.declared.symbols.NonTerm.{NonTerm}
 use Rattle.cr_grammar.specs.declared.symbols.Symbol.{Symbol}
 use Rattle.cr_grammar.specs.declared.symbols.Symbol.TheVariants.{Term, Non, Act}
@@ -8,10 +8,9 @@ use Rattle.cr_ll.specs.Guards.{Terminal}
 use Rattle.cr_ll.specs.declared.guards.Verdict.{Verdict}
 use Rattle.cr_ll.specs.declared.guards.Verdict.TheVariants.{Holds, Fails, Asks}
 use Rattle.cr_ll.specs.declared.guards.Choice.{Choice}
-use Rattle.cr_ll.specs.declared.guards.Choice.TheVariants.{Nothing, Takes, Waits}
-use Rattle.cr_ll.specs.Guards.{ask_at, token_at, meets, verdict, chosen, choice}
-use Rattle.cr_ll.specs.Derivation.{Item, Passed, Due, Asked, Trees, none, token, action, node, events, Chosen, ChosenBy, Derives}
-use Rattle.cr_ll.specs.Machine.{Config, at, Move, Gives, Opens, AsksAt, body_at, move_by, pass, move, replied, Run, stop, gives, opens, asks}
+use Rattle.cr_ll.specs.Guards.{token_at, verdict, chosen, choice}
+use Rattle.cr_ll.specs.Derivation.{Item, Passed, Due, Trees, none, token, action, node, events, Chosen, ChosenBy, Derives}
+use Rattle.cr_ll.specs.Machine.{Config, at, Gives, body_at, move_by, pass, Run, gives, opens, asks}
 
 -- the first of the rows from k on is the body at k
 pub body_first : (rows : List Row) (k : ℕ) (r : Row) (rs : List Row) → drop k rows ≡ r ∷ rs → body_at rows k ≡ r.1

@@ -3,13 +3,12 @@ use Rattle.std.proofs.Common.{◌≡◌, ℕ, List, [], ◌∷◌, refl}
 use Rattle.cr_grammar.specs.declared.symbols.Symbol.{Symbol}
 use Rattle.cr_grammar.specs.declared.symbols.NonTerm.{NonTerm}
 use Rattle.cr_grammar.specs.declared.symbols.Symbol.TheVariants.{Term, Non, Act}
-use Rattle.cr_grammar.specs.Grammar.{rule}
-use Rattle.cr_ll.specs.Guards.{Terminal, token_at, meets, choice}
+use Rattle.cr_ll.specs.Guards.{Terminal, token_at, meets}
 use Rattle.cr_ll.specs.declared.guards.Verdict.{Verdict}
 use Rattle.cr_ll.specs.declared.guards.Verdict.TheVariants.{Holds, Fails, Asks}
 use Rattle.cr_ll.specs.declared.guards.Choice.{Choice}
 use Rattle.cr_ll.specs.declared.guards.Choice.TheVariants.{Nothing, Takes, Waits}
-use Rattle.cr_ll.specs.Machine.{Config, Ends, Move, pass, move_by, move_on, move}
+use Rattle.cr_ll.specs.Machine.{Config, Ends, pass, move_by, move_on, move}
 
 pub pass_ends : (v : Verdict) (i : ℕ) (ss : List Symbol) → pass v i ss ≡ Ends → ⊥
 pass_ends Holds i ss h = cc

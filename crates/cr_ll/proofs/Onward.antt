@@ -1,11 +1,9 @@
 -- How runs join, and how a run goes on from where another one came to.
-use Rattle.std.proofs.Common.{◌≡◌, ℕ, Bool, List, [], ◌∷◌, ◌++◌, refl, sym, ◌∙◌, ap, subst}
+use Rattle.std.proofs.Common.{◌≡◌, ℕ, Bool, List, [], ◌∷◌, ◌++◌, refl, sym, ap, subst}
 use Rattle.std.proofs.lemmas.List.{append-nil}
-use Rattle.cr_grammar.specs.declared.symbols.Symbol.{Symbol}
-use Rattle.cr_grammar.specs.declared.symbols.Symbol.TheVariants.{Term, Non, Act}
 use Rattle.cr_ll.specs.Guards.{Terminal}
 use Rattle.cr_ll.specs.Derivation.{Item, Asked, Trees, Derives, events}
-use Rattle.cr_ll.specs.Machine.{Config, at, Move, Gives, Opens, AsksAt, Ends, Faults, move, replied, Run, stop, gives, opens, asks}
+use Rattle.cr_ll.specs.Machine.{Config, at, Gives, Opens, AsksAt, Ends, Faults, move, replied, Run, stop, gives, opens, asks}
 use Rattle.cr_ll.specs.Laws.{unit}
 use Rattle.cr_ll.proofs.Complete.{complete}
 

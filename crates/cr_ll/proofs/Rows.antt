@@ -1,5 +1,5 @@
 -- How choosing goes over the rows of the table.
-use Rattle.std.proofs.Common.{◌≡◌, ℕ, zero, suc, Option, Some, None, [], ◌∷◌, ◌++◌, ◌+◌, ◌<◌, ◌≤◌, List, length, get_or, drop, map, refl, sym, ◌∙◌, ap, add-one, drop-cons, length-append, arith}
+use Rattle.std.proofs.Common.{◌≡◌, ℕ, zero, suc, Option, Some, [], ◌∷◌, ◌++◌, ◌+◌, ◌<◌, ◌≤◌, List, length, get_or, drop, map, refl, sym, ◌∙◌, ap, add-one, drop-cons, length-append, arith}
 use Rattle.std.proofs.lemmas.List.{drop-map, drop_all, length-map}
 use Rattle.cr_grammar.specs.declared.symbols.Alternative.{Alternative}
 use Rattle.cr_grammar.specs.declared.symbols.NonTerm.{NonTerm}

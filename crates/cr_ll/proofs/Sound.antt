@@ -1,6 +1,5 @@
 -- What is run derives: a run that empties the stack gives a tree's events.
-use Rattle.std.proofs.Common.{◌≡◌, ℕ, zero, suc, ◌+◌, Bool, true, false, List, [], ◌∷◌, ◌++◌, drop, refl, sym, ◌∙◌, ap, subst, append_assoc, inl, inr, ◌⊎◌, ◌↔◌}
-use Rattle.std.proofs.lemmas.List.{append-nil}
+use Rattle.std.proofs.Common.{◌≡◌, ℕ, ◌+◌, Bool, true, false, List, [], ◌∷◌, ◌++◌, drop, refl, sym, ◌∙◌, ap, subst, append_assoc, inl, inr}
 use Rattle.cr_grammar.specs.declared.symbols.NonTerm.{NonTerm}
 use Rattle.cr_grammar.specs.declared.symbols.Symbol.{Symbol}
 use Rattle.cr_grammar.specs.declared.symbols.Term.{Term as TermType}
@@ -14,7 +13,7 @@ use Rattle.cr_ll.specs.declared.guards.Choice.TheVariants.{Nothing, Takes, Waits
 use Rattle.cr_ll.specs.Guards.{ask_at, token_at, meets, verdict, chosen, choice}
 use Rattle.cr_ll.specs.Derivation.{Item, Passed, Due, Asked, Trees, none, token, action, node, events, Chosen, ChosenBy, Derives}
 use Rattle.cr_ll.specs.Machine.{Config, at, Move, Gives, Opens, AsksAt, Ends, Faults, body_at, move_by, pass, move_on, move, replied, Run, stop, gives, opens, asks}
-use Rattle.cr_ll.proofs.Complete.{body_first, rows_next, complete}
+use Rattle.cr_ll.proofs.Complete.{body_first, rows_next}
 
 -- the trees of a row of symbols fall into those of its two parts
 pub record Halves (ts : List Terminal) (i : ℕ) (a b : List Symbol) (xs : List Item) (j : ℕ) : Type 0 where

@@ -1,15 +1,15 @@
 -- From moves to steps.
-use Rattle.std.proofs.Common.{◌≡◌, ℕ, Option, Some, None, List, [], ◌∷◌, Result, Ok, Err, refl, sym, ◌∙◌, ap, subst, inl, inr}
+use Rattle.std.proofs.Common.{◌≡◌, Some, List, [], Ok, Err, sym, ◌∙◌, ap, subst, inr}
 use Rattle.cr_ll.specs.Guards.{Terminal}
 use Rattle.cr_ll.specs.declared.state.State.{State}
 use Rattle.cr_ll.specs.declared.state.Event.{Event}
 use Rattle.cr_ll.specs.declared.state.MachineFault.{MachineFault}
 use Rattle.cr_ll.specs.declared.state.Event.TheVariants.{Token, Act, Ask, Done}
 use Rattle.cr_ll.specs.declared.state.MachineFault.TheVariants.{Syntax, LimitDepth}
-use Rattle.cr_ll.specs.declared.state.Moved.TheVariants.{Gave, Opened, Failed}
+use Rattle.cr_ll.specs.declared.state.Moved.TheVariants.{Gave, Failed}
 use Rattle.cr_ll.specs.Derivation.{Item}
-use Rattle.cr_ll.specs.Machine.{Config, Ends, Faults, AsksAt, Run, stop, gives, opens, move}
-use Rattle.cr_ll.specs.Running.{config_of, Advances, Steps, Stops}
+use Rattle.cr_ll.specs.Machine.{Config, Run, stop, gives, move}
+use Rattle.cr_ll.specs.Running.{config_of, Advances, Steps}
 
 abbrev pub Same : List Terminal → State → State → Type 0
 Same ts old mid = (xs : List Item) (e : Config) → Run ts (config_of mid) xs e → Run ts (config_of old) xs e

@@ -4,10 +4,8 @@ use Rattle.std.specs.List.{list_any, slice_split}
 use Rattle.cr_base.specs.declared.token.TokKind.{TokKind}
 use Rattle.cr_base.specs.declared.token.TokKind.TheVariants as k
 use Rattle.cr_base.specs.declared.token.Tok.{Tok}
-use Rattle.cr_grammar.specs.declared.symbols.NonTerm.{NonTerm}
 use Rattle.cr_grammar.specs.declared.symbols.Term.{Term}
 use Rattle.cr_grammar.specs.declared.symbols.Term.TheVariants as t
-use Rattle.cr_grammar.specs.declared.symbols.Symbol.{Symbol}
 use Rattle.cr_grammar.specs.declared.symbols.Guard.{Guard}
 use Rattle.cr_grammar.specs.declared.symbols.Guard.TheVariants.{Else, First, Both}
 use Rattle.cr_grammar.specs.Grammar.{Row}

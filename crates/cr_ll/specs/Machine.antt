@@ -1,7 +1,6 @@
 -- The machine: a stack of symbols, on which a body replaces its nonterminal.
-use Rattle.std.specs.Prelude.{Option, Some, None, ◌≡◌, ℕ, zero, suc, ◌+◌, Bool, true, false, cond, List, [], ◌∷◌, ◌++◌, drop}
+use Rattle.std.specs.Prelude.{Option, Some, None, ◌≡◌, ℕ, zero, suc, ◌+◌, Bool, cond, List, [], ◌∷◌, ◌++◌, drop}
 use Rattle.cr_grammar.specs.declared.symbols.NonTerm.{NonTerm}
-use Rattle.cr_grammar.specs.declared.symbols.Action.{Action}
 use Rattle.cr_grammar.specs.declared.symbols.Symbol.{Symbol}
 use Rattle.cr_grammar.specs.declared.symbols.Symbol.TheVariants.{Term, Non, Act}
 use Rattle.cr_grammar.specs.Grammar.{Row, rule}
@@ -10,7 +9,7 @@ use Rattle.cr_ll.specs.declared.guards.Verdict.{Verdict}
 use Rattle.cr_ll.specs.declared.guards.Verdict.TheVariants.{Holds, Fails, Asks}
 use Rattle.cr_ll.specs.declared.guards.Choice.{Choice}
 use Rattle.cr_ll.specs.declared.guards.Choice.TheVariants.{Nothing, Takes, Waits}
-use Rattle.cr_ll.specs.Guards.{ask_at, token_at, meets, verdict, choice}
+use Rattle.cr_ll.specs.Guards.{ask_at, token_at, meets, choice}
 use Rattle.cr_ll.specs.Derivation.{Item, Passed, Due, Asked}
 
 -- refused: of the topmost symbol, how many alternatives need not be tried any more

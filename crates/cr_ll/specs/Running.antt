@@ -1,5 +1,5 @@
 -- What the machine's calls do, by the moves of its configuration.
-use Rattle.std.specs.Prelude.{Result, Ok, Err, ◌⊎◌, ◌≡◌, ℕ, ◌+◌, ◌<◌, ◌≤◌, Bool, true, Option, Some, None, List, [], ◌∷◌, ◌++◌, drop, length}
+use Rattle.std.specs.Prelude.{Result, Ok, Err, ◌⊎◌, ◌≡◌, ℕ, ◌<◌, Bool, true, Option, Some, None, List, [], ◌∷◌, ◌++◌, drop, length}
 use Rattle.cr_grammar.specs.declared.symbols.NonTerm.{NonTerm}
 use Rattle.cr_grammar.specs.declared.symbols.NonTerm.TheVariants as n
 use Rattle.cr_grammar.specs.declared.symbols.Symbol.{Symbol}
@@ -86,9 +86,13 @@ IsAsking m = (ts : List Terminal) × (i : ℕ) × (k : ℕ) × (m.waits ≡ Some
 abbrev pub Replies : State → Bool → State → Type 0
 Replies old answer new =
     (ts : List Terminal) (i k : ℕ) → old.waits ≡ Some k → move ts (config_of old) ≡ AsksAt i k
-    → (new.waits ≡ None)
-    × ((Run ts (config_of old) (Asked i answer ∷ []) (config_of new) × (new.fault ≡ old.fault))
-    ⊎ ((answer ≡ true) × (LIMIT < length (replied (config_of old) k answer).stack) × (config_of new ≡ config_of old) × (new.fault ≡ Some LimitDepth)))
+    → (Run ts (config_of old) (Asked i answer ∷ []) (config_of new) × (new.fault ≡ old.fault))
+    ⊎ ((answer ≡ true) × (LIMIT < length (replied (config_of old) k answer).stack) × (config_of new ≡ config_of old) × (new.fault ≡ Some LimitDepth))
+
+-- After an ask the machine waits for the reply, and else for nothing.
+abbrev pub IsReady : Result Event MachineFault → State → Type 0
+IsReady (Ok (Ask i)) m = IsAsking m
+IsReady _ m = m.waits ≡ None
 
 -- After a fault each step answers it, and nothing changes.
 abbrev pub IsStuck : State → Result Event MachineFault → State → Type 0

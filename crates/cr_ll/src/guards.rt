@@ -127,8 +127,11 @@ fn fits_of(term: Term, x: Lexeme, ahead: usize) -> Verdict
         Term::Constant => holds_if(is_constant(x.kind)),
         Term::StringLiteral => holds_if(is_string(x.kind)),
         Term::TypedefName => asks_if(is_name(x.kind), ahead, Verdict::Fails),
-        Term::Specifier =>
-            asks_if(is_name(x.kind), ahead, holds_if(is_spelled(Term::Specifier, x))),
+        Term::Specifier => asks_if(
+            is_name(x.kind),
+            ahead,
+            holds_if(is_spelled(Term::Specifier, x)),
+        ),
         _ => holds_if(is_spelled(term, x)),
     }
 }

@@ -13,3 +13,6 @@ pub use laws::{
 };
 pub use machine::Machine;
 pub use state::{Event, MachineFault};
+
+#[cfg(test)]
+mod tests;

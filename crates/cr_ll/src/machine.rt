@@ -1,7 +1,7 @@
 //! The machine, seen as its state.
 ghost use Rattle.std.specs.Prelude.{◌≡◌, ◌≤◌, ◌^◌, IfOk, None, length};
 ghost use Rattle.cr_ll.specs.Guards.{terminals};
-ghost use Rattle.cr_ll.specs.Running.{IsFresh, IsAsking, IsStuck, Steps, Replies};
+ghost use Rattle.cr_ll.specs.Running.{IsFresh, IsAsking, IsStuck, IsReady, Steps, Replies};
 
 use crate::state::{Event, MachineFault, State, reply, start, step};
 use cr_base::{NameTable, OutOfMemory, Tok};
@@ -43,6 +43,7 @@ impl Machine {
         ensures steps { Steps (terminals names.now tokens.now) self.old result self.new }
         ensures placed { self.new.place ≤ length tokens.now }
         ensures stuck { IsStuck self.old result self.new }
+        ensures ready { IsReady result self.new }
     {
         step(&mut self.state, names, tokens)
     }
@@ -50,7 +51,9 @@ impl Machine {
     /// Answers the last event, an ask: whether the identifier is a typedef name there (C11 6.7.8).
     pub fn reply(&mut self, typedef_name: bool)
         requires { IsAsking self.old }
-        ensures { Replies self.old typedef_name self.new }
+        ensures replies { Replies self.old typedef_name self.new }
+        ensures idle { self.new.waits ≡ None }
+        ensures placed { self.new.place ≡ self.old.place }
     {
         reply(&mut self.state, typedef_name)
     }

@@ -2,7 +2,6 @@ use Rattle.std.proofs.Common.{rules, tests, ◌==◌}
 use Rattle.std.specs.Prelude.{bytes_eq}
 use Rattle.std.proofs.lemmas.Iterator.Splits.{YieldsList-from_slice_split}
 use Rattle.std.proofs.lemmas.Iterator.Search.{any_from_yields_List}
-use Rattle.cr_ll.specs.Guards as spec
 use Rattle.cr_ll.proofs.guards.is_among.Goals as goal
 
 pub returns : goal.returns

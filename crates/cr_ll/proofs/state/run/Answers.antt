@@ -1,6 +1,6 @@
 use Rattle.cr_ll.specs.Guards.{terminals}
-use Rattle.std.proofs.Common.{Some, refl, sym, ◌∙◌, inl}
-use Rattle.cr_ll.specs.Machine.{stop, opens}
+use Rattle.std.proofs.Common.{Some, refl, ◌∙◌}
+use Rattle.cr_ll.specs.Machine.{opens}
 use Rattle.cr_ll.specs.Running.{config_of}
 use Rattle.cr_ll.proofs.Stepping.{step_gave, step_failed}
 use Rattle.cr_ll.proofs.Weight.{opens_lighter}

@@ -1,4 +1,4 @@
-use Rattle.std.proofs.Common.{◌≡◌, ◌≤◌, ℕ, None, List, length}
+use Rattle.std.proofs.Common.{◌≡◌, ◌≤◌, None, List, length}
 use Rattle.cr_ll.specs.Guards.{terminals}
 use Rattle.cr_ll.specs.Derivation.{Item}
 use Rattle.cr_ll.specs.Machine.{Config, Run}

@@ -1,4 +1,4 @@
-use Rattle.std.proofs.Common.{◌≡◌, ◌+◌, drop, sym, ◌∙◌, ap}
+use Rattle.std.proofs.Common.{drop, sym, ◌∙◌, ap}
 use Rattle.std.proofs.lemmas.List.{drop-drop}
 use Rattle.cr_ll.proofs.stack.Stack.pop.Goals as goal
 
