@@ -17,12 +17,18 @@ pub fn spellings(term: Term) -> &'static [u8]
         Term::TypedefName => b"",
         Term::Constant => b"",
         Term::StringLiteral => b"",
-        Term::Specifier => b"typedef extern static auto register _Thread_local const __const__ volatile __volatile__ restrict __restrict__ __restrict inline __inline__ __inline _Noreturn void char short int long float double signed __signed__ unsigned _Bool _Complex __builtin_va_list _Alignas _Atomic struct union enum",
-        Term::Modifier => b"typedef extern static auto register _Thread_local const __const__ volatile __volatile__ restrict __restrict__ __restrict inline __inline__ __inline _Noreturn __extension__ __attribute__ _Alignas",
-        Term::PlainModifier => b"typedef extern static auto register _Thread_local const __const__ volatile __volatile__ restrict __restrict__ __restrict inline __inline__ __inline _Noreturn __extension__",
-        Term::Basic => b"void char short int long float double signed __signed__ unsigned _Bool _Complex __builtin_va_list",
-        Term::QualifierOrAtomic => b"const __const__ volatile __volatile__ restrict __restrict__ __restrict _Atomic",
-        Term::StaticOrQualifier => b"static const __const__ volatile __volatile__ restrict __restrict__ __restrict",
+        Term::Specifier =>
+            b"typedef extern static auto register _Thread_local const __const__ volatile __volatile__ restrict __restrict__ __restrict inline __inline__ __inline _Noreturn void char short int long float double signed __signed__ unsigned _Bool _Complex __builtin_va_list _Alignas _Atomic struct union enum",
+        Term::Modifier =>
+            b"typedef extern static auto register _Thread_local const __const__ volatile __volatile__ restrict __restrict__ __restrict inline __inline__ __inline _Noreturn __extension__ __attribute__ _Alignas",
+        Term::PlainModifier =>
+            b"typedef extern static auto register _Thread_local const __const__ volatile __volatile__ restrict __restrict__ __restrict inline __inline__ __inline _Noreturn __extension__",
+        Term::Basic =>
+            b"void char short int long float double signed __signed__ unsigned _Bool _Complex __builtin_va_list",
+        Term::QualifierOrAtomic =>
+            b"const __const__ volatile __volatile__ restrict __restrict__ __restrict _Atomic",
+        Term::StaticOrQualifier =>
+            b"static const __const__ volatile __volatile__ restrict __restrict__ __restrict",
         Term::StructOrUnion => b"struct union",
         Term::SwitchOrWhile => b"switch while",
         Term::ContinueOrBreak => b"continue break",

@@ -122,7 +122,9 @@ fn is_told(term: Term) -> bool {
         | Term::TypedefName
         | Term::Constant
         | Term::StringLiteral => spellings(term).is_empty(),
-        _ => spellings(term).split(|b| *b == b' ').all(|word| is_known(word)),
+        _ => spellings(term)
+            .split(|b| *b == b' ')
+            .all(|word| is_known(word)),
     }
 }
 
@@ -146,7 +148,10 @@ fn each_word_of_the_table_is_known(rt: HostRuntime) -> Result<(), Fail> {
     for n in &NONTERMINALS {
         let rows = alternatives(*n);
         assert!(rt; !rows.is_empty());
-        assert!(rt; rows.iter().all(|row| guard_is_told(row.guard) && body_is_told(row.body)));
+        assert!(rt;
+            rows.iter()
+                .all(|row| guard_is_told(row.guard) && body_is_told(row.body))
+        );
     }
     Ok(())
 }
