@@ -1,0 +1,5 @@
+pub mod Guards
+pub mod Derivation
+pub mod Machine
+pub mod Running
+pub mod Laws
