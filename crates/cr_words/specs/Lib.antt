@@ -1,0 +1,6 @@
+pub mod Numbers
+pub mod QualifiedNames
+pub mod Kinds
+pub mod Givens
+pub mod Requests
+pub mod Seen
