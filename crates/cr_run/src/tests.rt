@@ -144,7 +144,9 @@ fn a_real_file_is_renamed_in_the_report_alone(rt: HostRuntime) -> Result<(), Fai
     let mut out = MemSink::new(alloc);
     let mut err = MemSink::new(alloc);
     let status = crename_serial(alloc, &words, &mut tree, &mut out, &mut err);
-    let mut want = format!(in alloc; "renamed foo to bar\nunits 1, skipped 0, files 1, edits 2\nedit {path} 4\nedit {path} 47\nfile {path} 55\n")?;
+    let mut want = format!(in alloc;
+        "renamed foo to bar\nunits 1, skipped 0, files 1, edits 2\nedit {path} 4\nedit {path} 47\nfile {path} 55\n"
+    )?;
     want.push_str("int bar(void){return 0;}\nint main(void){return bar();}\n\n")?;
     assert_eq!(rt; status, 0);
     assert_eq!(rt; out.bytes(), want.as_bytes());
