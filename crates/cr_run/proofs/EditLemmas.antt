@@ -5,7 +5,7 @@ use Rattle.std.proofs.lemmas.List.{drop_more}
 use Rattle.std.proofs.lemmas.Slice.Eq.{bytes_eq-Decides}
 use Rattle.cr_base.specs.Substitution.{Rise, substituted, offsets_in}
 use Rattle.cr_world.specs.Outside.{Files}
-use Rattle.cr_run.specs.Outcome.{places_at, renamed_files}
+use Rattle.cr_run.specs.Outcome.{places_at}
 use Rattle.cr_run.specs.Report.{report_of, report_text, contents}
 
 pub rise_at : (offsets : List ℕ) (i from len end : ℕ) → i < length offsets → Rise from (drop i offsets) len end → (from ≤ get_or offsets i 0) × Rise (get_or offsets i 0 + len) (drop (i + 1) offsets) len end

@@ -1,18 +1,18 @@
 -- From the outcome to what is kept.
-use Rattle.std.proofs.Common.{◌≡◌, ◌⊎◌, inl, inr, ℕ, Bool, true, false, not, List, length, Option, Some, None, refl, sym, ap, ◌∙◌, subst}
+use Rattle.std.proofs.Common.{◌≡◌, inl, inr, ℕ, Bool, true, false, not, List, length, Option, Some, None, refl, sym, ap, ◌∙◌, subst}
 use Rattle.std.specs.Prelude.{bytes_eq, codes, nat_lt, ◌||◌, ◌&&◌, if◌then◌else◌, option_map}
 use Rattle.std.specs.List.{zip}
 use Rattle.cr_base.specs.Names.{is_identifier, is_keyword, is_reserved}
 use Rattle.cr_base.specs.Substitution.{substituted, offsets_in}
 use Rattle.cr_world.specs.Outside.{Files}
-use Rattle.cr_small.specs.Tokens.{Token, cut}
+use Rattle.cr_small.specs.Tokens.{cut}
 use Rattle.cr_small.specs.Terminals.{is_name}
 use Rattle.cr_small.specs.SmallForm.{IsSmallForm}
 use Rattle.cr_small.specs.Renaming.{Target, target_at, places_of, has_text}
 use Rattle.cr_small.specs.KeepsMeaning.{KeepsMeaning, RenamingKeepsMeaning}
 use Rattle.cr_small.specs.declared.binder.Denotation.{Denotation}
 use Rattle.cr_run.specs.CommandLine.{Request, read_words}
-use Rattle.cr_run.specs.Outcome.{Outcome, Rename, accepts, refuses, unbuilt, is_refused, of_target, of_small_form, rename_of, places_at, IsTextOutcome, IsBytesOutcome, IsFileOutcome, IsRequestOutcome, IsOutcome, source_path, renamed_files}
+use Rattle.cr_run.specs.Outcome.{Rename, accepts, refuses, unbuilt, is_refused, of_target, rename_of, places_at, IsTextOutcome, IsBytesOutcome, IsFileOutcome, IsRequestOutcome, source_path}
 use Rattle.cr_run.specs.Keeps.{KeepsFile, Keeps, AcceptedKeeps}
 use Rattle.cr_run.proofs.EditLemmas.{offsets_in-places}
 

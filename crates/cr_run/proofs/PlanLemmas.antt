@@ -1,6 +1,6 @@
 -- What a plan is, from what its parts found.
-use Rattle.std.proofs.Common.{◌≡◌, ◌⊎◌, inl, inr, ℕ, ◌<◌, ◌≤◌, Bool, true, false, List, length, Option, Some, None, Result, refl, sym, ap, ◌∙◌, subst, arith}
-use Rattle.std.specs.Prelude.{bytes_eq, codes, nat_lt, ◌||◌, if◌then◌else◌, Ok, Err}
+use Rattle.std.proofs.Common.{◌≡◌, inl, inr, ℕ, ◌<◌, ◌≤◌, Bool, true, false, List, length, Option, Some, None, Result, refl, sym, ap, ◌∙◌, subst, arith}
+use Rattle.std.specs.Prelude.{bytes_eq, codes, nat_lt, Ok, Err}
 use Rattle.std.specs.List.{zip}
 use Rattle.std.proofs.lemmas.Bool.Decides.{nat_tests}
 use Rattle.cr_world.specs.Outside.{Files}

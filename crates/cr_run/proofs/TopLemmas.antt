@@ -2,7 +2,7 @@
 use Rattle.std.proofs.Common.{◌≡◌, ◌⊎◌, inl, inr, ℕ, List, Option, ◌++◌, refl, ap, arith}
 use Rattle.std.specs.Prelude.{codes, Err}
 use Rattle.cr_world.specs.Outside.{Files}
-use Rattle.cr_run.specs.Outcome.{Outcome, Rename, accepts, refuses, IsOutcome, OneOutcome}
+use Rattle.cr_run.specs.Outcome.{Outcome, Rename, accepts, IsOutcome, OneOutcome}
 use Rattle.cr_run.specs.Top.{Tells, line_of, status_of, text_of, HasReadCause, Decides, decided_status}
 use Rattle.cr_run.specs.declared.refusal.Refusal.{Refusal}
 use Rattle.cr_run.specs.declared.refusal.Refusal.TheVariants as refusal

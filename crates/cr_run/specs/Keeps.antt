@@ -1,5 +1,5 @@
 -- An accepted rename keeps the meaning of the file that it edits.
-use Rattle.std.specs.Prelude.{◌≡◌, List, ℕ, Option, Some}
+use Rattle.std.specs.Prelude.{◌≡◌, List, ℕ, Some}
 use Rattle.cr_base.specs.Substitution.{offsets_in}
 use Rattle.cr_world.specs.Outside.{Files}
 use Rattle.cr_small.specs.Tokens.{cut}

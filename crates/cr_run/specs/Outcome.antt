@@ -1,5 +1,5 @@
 -- What the words and the files decide: a refusal, or a rename. Our own rules, in the order of refusals.
-use Rattle.std.specs.Prelude.{ℕ, ◌≡◌, ◌⊎◌, Bool, true, false, not, ◌||◌, List, [], ◌∷◌, ◌++◌, length, map, Option, Some, None, if◌then◌else◌, nat_lt, bytes_eq, codes}
+use Rattle.std.specs.Prelude.{ℕ, ◌≡◌, ◌⊎◌, Bool, true, false, not, ◌||◌, List, [], ◌++◌, length, map, Option, Some, None, if◌then◌else◌, nat_lt, bytes_eq, codes}
 use Rattle.std.specs.List.{zip}
 use Rattle.cr_base.specs.Names.{is_identifier, is_keyword, is_reserved}
 use Rattle.cr_base.specs.Path.{normalised}

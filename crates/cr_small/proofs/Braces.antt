@@ -1,14 +1,13 @@
 -- In a tree no body is opened inside another, and each token does one thing.
 use Rattle.std.proofs.Common.{◌≡◌, Bool, true, false, List, [], ◌∷◌, ◌++◌, map, Option, Some, None, refl, sym, ap, ◌∙◌, subst, append_assoc}
 use Rattle.std.specs.List.{flat_map}
-use Rattle.std.specs.Option.{option_map}
 use Rattle.cr_small.specs.Tokens.{Token}
 use Rattle.cr_small.specs.Terminals.{has_plain_names}
-use Rattle.cr_small.specs.Tree.{Item, number, mention, call, Sum, Statement, local, returns, evaluates, External, object, prototype, definition, Leaf, item_leaves, more_leaves, sum_leaves, initialiser_leaves, object_leaves, statement_leaves, function_leaves, opening, closing, external_leaves, leaves, parts, plain, Derives}
+use Rattle.cr_small.specs.Tree.{Item, number, mention, call, Sum, Statement, local, returns, evaluates, External, object, prototype, definition, Leaf, item_leaves, more_leaves, sum_leaves, initialiser_leaves, object_leaves, statement_leaves, closing, external_leaves, leaves, parts, plain, Derives}
 use Rattle.cr_small.specs.Derivation.{HasParts}
 use Rattle.std.specs.List.{zip}
-use Rattle.cr_small.specs.Resolution.{resolved, file_scope, resolution}
-use Rattle.cr_small.specs.SmallForm.{IsSmallForm, Resolves, DenotesOne}
+use Rattle.cr_small.specs.Resolution.{resolved, file_scope}
+use Rattle.cr_small.specs.SmallForm.{Resolves, DenotesOne}
 use Rattle.cr_small.specs.Machine.{run}
 use Rattle.cr_small.specs.Holding.{AreBraced}
 use Rattle.cr_small.specs.declared.terminal.Terminal.TheVariants as terminal

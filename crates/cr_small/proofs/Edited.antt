@@ -1,18 +1,18 @@
 -- A text with another name in it is cut into the tokens with that name.
 use Rattle.std.proofs.lemmas.List.{length-append}
 use Rattle.std.proofs.Math.Seq.{take-append_seam, drop-append_seam, take-append-add, drop-append-add}
-use Rattle.std.proofs.Common.{◌≡◌, ◌⊎◌, inl, inr, ℕ, ◌+◌, ◌-◌, ◌<◌, ◌≤◌, Bool, true, false, List, [], ◌∷◌, ◌++◌, length, map, take, drop, Option, Some, None, refl, sym, ap, ◌∙◌, subst, arith, append_assoc, append-nil, zero, suc}
+use Rattle.std.proofs.Common.{◌≡◌, inl, inr, ℕ, ◌+◌, ◌-◌, Bool, true, false, List, [], ◌∷◌, ◌++◌, length, take, drop, Option, refl, sym, ap, ◌∙◌, subst, arith, append_assoc}
 use Rattle.std.specs.Prelude.{if◌then◌else◌}
-use Rattle.std.specs.List.{list_all, zip, filter}
+use Rattle.std.specs.List.{list_all, zip}
 use Rattle.cr_base.specs.Names.{is_word_byte}
 use Rattle.cr_base.specs.Substitution.{Rise, substituted_from}
-use Rattle.cr_small.specs.Tokens.{Token, is_blank, begins_word, cut}
+use Rattle.cr_small.specs.Tokens.{Token, is_blank, begins_word}
 use Rattle.cr_small.specs.Renaming.{denotes_entity, places_of}
 use Rattle.cr_small.specs.declared.binder.Denotation.{Denotation}
 use Rattle.cr_small.proofs.Flat.{bool_cases}
-use Rattle.cr_small.proofs.Cuts.{both, word_not_blank, InOrder}
+use Rattle.cr_small.proofs.Cuts.{both, InOrder}
 use Rattle.cr_small.proofs.Names.{AllSpelled, rise-places, same-length}
-use Rattle.cr_small.proofs.Spacing.{Layout, IsWord, IsMark, IsTokenText}
+use Rattle.cr_small.proofs.Spacing.{Layout, IsWord, IsTokenText}
 
 -- the tokens of a text stand in order
 pub layout-order : (ts : List Token) (from : ℕ) (bytes : List ℕ) → Layout ts from bytes → InOrder from ts (from + length bytes)

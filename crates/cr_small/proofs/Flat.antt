@@ -1,12 +1,12 @@
 -- Flat lists of declarations, and one declaration more.
-use Rattle.std.proofs.Common.{◌≡◌, ◌⊎◌, inl, inr, ℕ, ◌+◌, ◌<◌, Bool, true, false, not, ◌&&◌, ◌||◌, List, [], ◌∷◌, ◌++◌, Option, Some, None, refl, sym, ap, ◌∙◌, subst, true≢false, arith, cond}
+use Rattle.std.proofs.Common.{◌≡◌, ◌⊎◌, inl, inr, ℕ, ◌+◌, ◌<◌, Bool, true, false, not, ◌&&◌, ◌||◌, List, [], ◌∷◌, ◌++◌, Option, Some, None, refl, sym, ap, ◌∙◌, subst, arith, cond}
 use Rattle.std.specs.Prelude.{if◌then◌else◌, bytes_eq}
 use Rattle.std.specs.List.{list_any, find}
-use Rattle.std.specs.Option.{option_map, option_or}
+use Rattle.std.specs.Option.{option_or}
 use Rattle.std.proofs.lemmas.Slice.Eq.{bytes_eq-Decides}
-use Rattle.cr_small.specs.Declarations.{Entry, is_in, last_in, lookup, is_external, first_external, token_or, entity_of, both_or_neither, clashes, is_redeclared}
-use Rattle.cr_small.specs.Resolution.{Bindings, is_file_scope}
-use Rattle.cr_small.specs.Holding.{IsOpened, AllOpened, IsOneKind, other_kind}
+use Rattle.cr_small.specs.Declarations.{Entry, is_in, last_in, is_external, both_or_neither, clashes, is_redeclared}
+use Rattle.cr_small.specs.Resolution.{is_file_scope}
+use Rattle.cr_small.specs.Holding.{IsOpened, AllOpened, other_kind}
 
 pub bytes_eq-refl : (xs : List ℕ) → bytes_eq xs xs ≡ true
 bytes_eq-refl xs = (bytes_eq-Decides xs xs).1 refl

@@ -1,29 +1,26 @@
 -- A rename to a name that a text doesn't have keeps the meaning of the text.
-use Rattle.std.proofs.Common.{◌≡◌, ◌⊎◌, inl, inr, ℕ, ◌+◌, ◌-◌, ◌<◌, ◌≤◌, Bool, true, false, ◌||◌, List, [], ◌∷◌, ◌++◌, length, map, slice_get, Option, Some, None, refl, sym, ap, ◌∙◌, subst, arith, zero, suc}
-use Rattle.std.specs.Prelude.{if◌then◌else◌, bytes_eq, ◌↔◌}
-use Rattle.std.specs.List.{list_any, zip}
+use Rattle.std.proofs.Common.{◌≡◌, ℕ, ◌+◌, ◌≤◌, Bool, true, false, ◌||◌, List, [], ◌∷◌, length, map, slice_get, Option, Some, None, refl, sym, ap, ◌∙◌, subst, arith, zero, suc}
+use Rattle.std.specs.Prelude.{if◌then◌else◌, bytes_eq}
+use Rattle.std.specs.List.{zip}
 use Rattle.std.specs.Option.{option_map}
 use Rattle.std.proofs.lemmas.Option.{slice_get-map}
-use Rattle.std.proofs.lemmas.List.{length-map}
 use Rattle.cr_base.specs.Substitution.{shifted, substituted}
 use Rattle.cr_small.specs.Tokens.{Token, cut}
 use Rattle.cr_small.specs.Terminals.{is_name, terminal_of}
-use Rattle.cr_small.specs.Tree.{External, leaves, parts, Derives}
-use Rattle.cr_small.specs.Resolution.{file_scope, resolved}
-use Rattle.cr_small.specs.SmallForm.{IsSmallForm, IsWellFormed}
-use Rattle.cr_small.specs.Renaming.{Target, target_at, places_of, denotes_entity, has_text}
+use Rattle.cr_small.specs.Tree.{parts}
+use Rattle.cr_small.specs.Resolution.{file_scope}
+use Rattle.cr_small.specs.Renaming.{places_of, denotes_entity, has_text}
 use Rattle.cr_small.specs.KeepsMeaning.{is_place, renamed_token, Key, external, at, key_of_token, key_of, AreLinked, KeepsMeaning, RenamingKeepsMeaning}
-use Rattle.cr_small.specs.declared.terminal.Terminal.TheVariants as terminal
 use Rattle.cr_small.specs.declared.grammar.Part.{Part}
 use Rattle.cr_small.specs.declared.binder.Denotation.{Denotation}
-use Rattle.cr_small.proofs.Flat.{bool_cases, bytes_eq-refl, bytes_eq-true}
+use Rattle.cr_small.proofs.Flat.{bytes_eq-refl}
 use Rattle.cr_small.proofs.Cuts.{InOrder}
-use Rattle.cr_small.proofs.Names.{AllSpelled, TextsFrom, text_of, texts-from, well-spelled, target-spelled, same-length, derived-length}
+use Rattle.cr_small.proofs.Names.{AllSpelled, text_of, texts-from, well-spelled, target-spelled, same-length, derived-length}
 use Rattle.cr_small.proofs.Pairs.{resolves-length}
 use Rattle.cr_small.proofs.Spacing.{IsWord, layout-cut}
 use Rattle.cr_small.proofs.Edited.{layout-order}
-use Rattle.cr_small.proofs.Moved.{Each, Each-map, Each-get, HasText, PlacedAs, order-from, layout-texts, tokens-renamed, placed-text}
-use Rattle.cr_small.proofs.Renames.{AreRenamed, AllFresh, IsFresh, text_behind, walk-follows}
+use Rattle.cr_small.proofs.Moved.{Each, Each-get, HasText, PlacedAs, order-from, layout-texts, tokens-renamed, placed-text}
+use Rattle.cr_small.proofs.Renames.{AreRenamed, AllFresh, walk-follows}
 use Rattle.cr_small.proofs.Links.{AreAlike, PairsAlike, pairs-alike, alike-at}
 use Rattle.cr_small.proofs.Spelling.{NameIf, NamesAt, well-named, target-name, word-of-name, terminal-of-name}
 

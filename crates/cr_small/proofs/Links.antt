@@ -1,7 +1,6 @@
 -- Entities with external linkage are told apart by their names.
-use Rattle.std.proofs.Common.{◌≡◌, ℕ, ◌+◌, Bool, true, false, List, [], ◌∷◌, ◌++◌, Option, Some, None, refl, sym, ap, ◌∙◌, subst, arith, zero, suc, slice_get}
+use Rattle.std.proofs.Common.{◌≡◌, ℕ, ◌+◌, Bool, true, false, List, [], ◌∷◌, ◌++◌, Option, Some, None, refl, sym, ap, ◌∙◌, subst, zero, suc, slice_get}
 use Rattle.std.specs.Prelude.{if◌then◌else◌}
-use Rattle.std.specs.List.{find}
 use Rattle.std.specs.Option.{option_map, option_or, option_and_then, is_some}
 use Rattle.cr_small.specs.Tokens.{Token}
 use Rattle.cr_small.specs.Declarations.{Entry, lookup, is_external, first_external, token_or, entity_of, is_redeclared}

@@ -1,15 +1,14 @@
 -- The maps of the code, and the flat list that they hold.
-use Rattle.std.proofs.Common.{◌≡◌, ◌⊎◌, inl, inr, ℕ, ◌+◌, ◌<◌, Bool, true, false, not, ◌&&◌, ◌||◌, List, [], ◌∷◌, ◌++◌, Option, Some, None, refl, sym, ap, ◌∙◌, subst, arith, cond}
+use Rattle.std.proofs.Common.{◌≡◌, ◌⊎◌, inl, inr, ℕ, ◌+◌, Bool, true, false, not, ◌&&◌, ◌||◌, List, [], ◌∷◌, ◌++◌, Option, Some, None, refl, sym, ap, ◌∙◌, subst, arith}
 use Rattle.std.specs.Prelude.{if◌then◌else◌, bytes_eq}
 use Rattle.std.specs.Borrow.{Bor}
-use Rattle.std.specs.List.{list_any, find}
+use Rattle.std.specs.List.{list_any}
 use Rattle.std.specs.Option.{option_map, option_or, is_some}
-use Rattle.cr_small.specs.Declarations.{Entry, is_in, last_in, lookup, is_external, first_external, token_or, entity_of, both_or_neither, clashes, is_redeclared}
-use Rattle.cr_small.specs.Resolution.{Bindings, Bound, is_file_scope, around, denotation, declared, mentioned, entry_at, file_scope}
+use Rattle.cr_small.specs.Declarations.{Entry, is_in, last_in, lookup, is_external, first_external, token_or, entity_of, both_or_neither, is_redeclared}
+use Rattle.cr_small.specs.Resolution.{Bindings, is_file_scope, denotation, declared, mentioned, entry_at}
 use Rattle.cr_small.specs.Holding.{symbol_of, symbol_in, answer, external_answer, again_answer, IsOpened, AllOpened, other_kind, IsOneKind, IsPresent, HoldsBody, Holds, Answers}
 use Rattle.cr_small.specs.declared.scopes.Symbol.{Symbol}
 use Rattle.cr_small.specs.declared.scopes.Scopes.{Scopes}
-use Rattle.cr_small.specs.declared.binder.Denotation.{Denotation}
 use Rattle.cr_small.specs.declared.binder.Binding.{Binding}
 use Rattle.cr_small.proofs.Flat.{bytes_eq-refl, bytes_eq-true, bool_cases, both, list_any-push, last_in-push, find-push, find-Some, find-any, find-None, list_any-none, AllOpened-more, AllOpened-push, unopened, last_in-Some, last_in-any, any_at_file, file_clashes, body_clashes}
 

@@ -1,7 +1,7 @@
 -- The tokens of an edited text are the renamed tokens, each where its first byte was shifted to.
-use Rattle.std.proofs.Common.{◌≡◌, ◌⊎◌, inl, inr, ℕ, ◌+◌, ◌-◌, ◌<◌, ◌≤◌, Bool, true, false, ◌||◌, List, [], ◌∷◌, ◌++◌, length, map, slice_get, Option, Some, None, refl, sym, ap, ◌∙◌, subst, arith, zero, suc, eqb-true, eq-eqb}
+use Rattle.std.proofs.Common.{◌≡◌, inl, inr, ℕ, ◌+◌, ◌-◌, ◌<◌, ◌≤◌, true, false, ◌||◌, List, [], ◌∷◌, length, map, slice_get, Option, Some, refl, sym, ap, ◌∙◌, subst, arith, zero, suc, eqb-true, eq-eqb}
 use Rattle.std.specs.Prelude.{if◌then◌else◌, ◌==◌}
-use Rattle.std.specs.List.{list_any, zip, filter}
+use Rattle.std.specs.List.{zip}
 use Rattle.cr_base.specs.Substitution.{Rise, shifted, substituted}
 use Rattle.cr_base.proofs.Shifts.{shifted-before, shifted-behind, shifted-upto}
 use Rattle.cr_small.specs.Tokens.{Token, cut}
@@ -12,7 +12,7 @@ use Rattle.cr_small.proofs.Flat.{bool_cases}
 use Rattle.cr_small.proofs.Cuts.{InOrder}
 use Rattle.cr_small.proofs.Names.{AllSpelled, rise-places, same-length}
 use Rattle.cr_small.proofs.Spacing.{Layout, IsWord, IsTokenText, layout-cut, cut-layout}
-use Rattle.cr_small.proofs.Edited.{moved, text_after, layout-order, layout-edited}
+use Rattle.cr_small.proofs.Edited.{moved, layout-order, layout-edited}
 
 -- a fact of each token
 abbrev pub Each : (Token → Type 0) → List Token → Type 0

@@ -1,22 +1,21 @@
 -- Tokens that denote one entity are spelled alike, and stand one behind another.
 use Rattle.std.proofs.lemmas.List.{length-map}
-use Rattle.std.proofs.Common.{eqb-true, eq-eqb, ◌≡◌, ◌⊎◌, inl, inr, ℕ, ◌+◌, ◌<◌, ◌≤◌, Bool, true, false, ◌&&◌, List, [], ◌∷◌, ◌++◌, length, map, get_or, Option, Some, None, refl, sym, ap, ◌∙◌, subst, arith, cond, zero, suc}
+use Rattle.std.proofs.Common.{eqb-true, eq-eqb, ◌≡◌, ℕ, ◌+◌, ◌<◌, ◌≤◌, Bool, true, false, List, [], ◌∷◌, ◌++◌, length, map, Option, Some, None, refl, sym, ap, ◌∙◌, subst, arith, cond, zero, suc}
 use Rattle.std.specs.Prelude.{if◌then◌else◌, bytes_eq, ◌==◌}
 use Rattle.std.specs.List.{find, zip, filter}
 use Rattle.std.specs.Option.{option_map, option_or, option_and_then}
-use Rattle.std.proofs.lemmas.Slice.Eq.{bytes_eq-Decides}
 use Rattle.cr_base.specs.Substitution.{Rise}
 use Rattle.cr_small.specs.Tokens.{Token, cut}
 use Rattle.cr_small.specs.Terminals.{terminal_of}
 use Rattle.cr_small.specs.Tree.{External, leaves, parts, Derives}
 use Rattle.cr_small.specs.Declarations.{Entry, is_in, last_in, lookup, is_external, first_external, token_or, entity_of, is_redeclared}
-use Rattle.cr_small.specs.Resolution.{Bindings, Bound, bound, resolved, file_scope, declared, mentioned, denotation, entry_at, around}
-use Rattle.cr_small.specs.SmallForm.{IsSmallForm, IsWellFormed}
+use Rattle.cr_small.specs.Resolution.{Bindings, Bound, bound, resolved, file_scope, declared, mentioned, denotation, entry_at}
+use Rattle.cr_small.specs.SmallForm.{IsWellFormed}
 use Rattle.cr_small.specs.Renaming.{covers, Target, target_of, target_at, denotes_entity, places_of, PlacesRise, HasPlace}
 use Rattle.cr_small.specs.declared.grammar.Part.{Part}
 use Rattle.cr_small.specs.declared.grammar.Part.TheVariants as part
 use Rattle.cr_small.specs.declared.binder.Denotation.{Denotation}
-use Rattle.cr_small.proofs.Flat.{bool_cases, both, bytes_eq-true, find-Some}
+use Rattle.cr_small.proofs.Flat.{both, bytes_eq-true, find-Some}
 use Rattle.cr_small.proofs.Cuts.{InOrder, cut-in_order, rise_down}
 
 -- a fact of each entry

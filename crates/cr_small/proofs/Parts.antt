@@ -1,15 +1,15 @@
 -- What the reader finds is what each token does in a tree.
-use Rattle.std.proofs.Common.{◌≡◌, ℕ, ◌+◌, ◌-◌, ◌<◌, ◌≤◌, Bool, true, false, List, [], ◌∷◌, ◌++◌, length, map, take, drop, get_or, Option, Some, None, refl, sym, ap, ◌∙◌, subst, append_assoc, append-nil}
+use Rattle.std.proofs.Common.{◌≡◌, ℕ, ◌+◌, ◌-◌, ◌<◌, ◌≤◌, Bool, true, false, List, [], ◌∷◌, ◌++◌, length, map, take, drop, get_or, Option, Some, None, refl, sym, ap, ◌∙◌, append_assoc, append-nil}
 use Rattle.std.specs.Prelude.{if◌then◌else◌}
-use Rattle.std.specs.Option.{option_map, option_and_then}
+use Rattle.std.specs.Option.{option_map}
 use Rattle.std.proofs.lemmas.List.{drop_more, drop_all, take_rest}
 use Rattle.cr_small.specs.Tokens.{Token}
 use Rattle.cr_small.specs.Seen.{token_of}
 use Rattle.cr_small.specs.declared.token.Token as code
 use Rattle.cr_small.specs.Terminals.{terminal_of}
-use Rattle.cr_small.specs.Tree.{External, Leaf, leaves, parts, Derives}
+use Rattle.cr_small.specs.Tree.{Leaf, leaves, parts}
 use Rattle.cr_small.specs.Derivation.{HasParts}
-use Rattle.cr_small.specs.Machine.{step, run, ending, is_end, opens, opens_next}
+use Rattle.cr_small.specs.Machine.{step, run, is_end, opens, opens_next}
 use Rattle.cr_small.specs.declared.terminal.Terminal.{Terminal}
 use Rattle.cr_small.specs.declared.grammar.Part.{Part}
 use Rattle.cr_small.specs.declared.grammar.Level.TheVariants as level

@@ -1,6 +1,5 @@
 -- The reader of the small form reads just the leaves of trees.
-use Rattle.std.proofs.Common.{◌≡◌, ◌⊎◌, inl, inr, Bool, true, false, List, [], ◌∷◌, ◌++◌, map, Option, Some, None, refl, sym, ap, ◌∙◌, subst, append_assoc, append-nil}
-use Rattle.std.specs.Prelude.{if◌then◌else◌}
+use Rattle.std.proofs.Common.{◌≡◌, ◌⊎◌, inl, inr, Bool, true, false, List, [], ◌∷◌, ◌++◌, map, Option, Some, None, refl, sym, ap, ◌∙◌, subst, append_assoc}
 use Rattle.std.specs.List.{flat_map}
 use Rattle.std.specs.Option.{option_map, option_and_then}
 use Rattle.cr_small.specs.Tree.{Item, number, mention, call, Sum, Statement, local, returns, evaluates, External, object, prototype, definition, Leaf, plain, name_that, item_leaves, more_leaves, sum_leaves, initialiser_leaves, object_leaves, statement_leaves, function_leaves, opening, closing, external_leaves, leaves}

@@ -1,17 +1,16 @@
 -- The walk over a text with a new name meets what the walk over the text met.
-use Rattle.std.proofs.Common.{◌≡◌, ◌⊎◌, inl, inr, ℕ, ◌+◌, Bool, true, false, not, ◌&&◌, ◌||◌, List, [], ◌∷◌, ◌++◌, length, map, Option, Some, None, refl, sym, ap, ◌∙◌, subst, arith, cond, eqb-true, eq-eqb, zero, suc}
+use Rattle.std.proofs.Common.{◌≡◌, ℕ, ◌+◌, Bool, true, false, not, ◌&&◌, ◌||◌, List, [], ◌∷◌, ◌++◌, map, Option, Some, None, refl, sym, ap, ◌∙◌, subst, cond, eqb-true}
 use Rattle.std.specs.Prelude.{if◌then◌else◌, bytes_eq, ◌==◌}
-use Rattle.std.specs.List.{list_any, find, zip}
+use Rattle.std.specs.List.{list_any, find}
 use Rattle.std.specs.Option.{option_map, option_or, option_and_then, is_some}
-use Rattle.std.proofs.lemmas.Slice.Eq.{bytes_eq-Decides}
 use Rattle.cr_small.specs.Tokens.{Token}
 use Rattle.cr_small.specs.Declarations.{Entry, is_in, last_in, lookup, is_external, first_external, token_or, entity_of, both_or_neither, clashes, is_redeclared}
-use Rattle.cr_small.specs.Resolution.{Bindings, Bound, bound, resolved, declared, mentioned, denotation, entry_at, around, is_file_scope}
+use Rattle.cr_small.specs.Resolution.{Bindings, Bound, bound, resolved, declared, mentioned, denotation, entry_at, is_file_scope}
 use Rattle.cr_small.specs.Renaming.{denotes_entity}
 use Rattle.cr_small.specs.declared.grammar.Part.{Part}
 use Rattle.cr_small.specs.declared.grammar.Part.TheVariants as part
 use Rattle.cr_small.specs.declared.binder.Denotation.{Denotation}
-use Rattle.cr_small.proofs.Flat.{bool_cases, both, bytes_eq-true, bytes_eq-refl, find-Some, find-push, last_in-any, list_any-push}
+use Rattle.cr_small.proofs.Flat.{both, bytes_eq-true, bytes_eq-refl, find-push, last_in-any}
 use Rattle.cr_small.proofs.Names.{All, All-push, All-lookup, IsNamed, entity-named, TextsFrom}
 
 pub All-map : (P Q : Entry → Type 0) (es : List Entry) → ((e : Entry) → P e → Q e) → All P es → All Q es

@@ -1,16 +1,10 @@
 -- A text as its tokens and the blanks between them, and the text with another name in it.
-use Rattle.std.proofs.lemmas.List.{length-map, take-append-le, drop-append-le, length-append}
-use Rattle.std.proofs.Math.Seq.{take-append_seam, drop-append_seam, take-append-add, drop-append-add}
-use Rattle.std.proofs.Common.{◌≡◌, ◌⊎◌, inl, inr, ℕ, ◌+◌, ◌-◌, ◌<◌, ◌≤◌, Bool, true, false, not, ◌&&◌, List, [], ◌∷◌, ◌++◌, length, map, take, drop, Option, Some, None, refl, sym, ap, ◌∙◌, subst, arith, append_assoc, append-nil, zero, suc}
-use Rattle.std.specs.Prelude.{if◌then◌else◌}
-use Rattle.std.specs.List.{list_all, zip, filter}
+use Rattle.std.proofs.Common.{◌≡◌, ◌⊎◌, inl, inr, ℕ, ◌+◌, ◌<◌, Bool, true, false, ◌&&◌, List, [], ◌∷◌, ◌++◌, length, refl, sym, ap, ◌∙◌, subst, arith, append-nil, suc}
+use Rattle.std.specs.List.{list_all}
 use Rattle.cr_base.specs.Names.{is_word_byte}
-use Rattle.cr_base.specs.Substitution.{Rise, substituted_from}
 use Rattle.cr_small.specs.Tokens.{Token, is_blank, begins_word, longer, cut}
-use Rattle.cr_small.specs.Renaming.{denotes_entity, places_of}
-use Rattle.cr_small.specs.declared.binder.Denotation.{Denotation}
 use Rattle.cr_small.proofs.Flat.{bool_cases}
-use Rattle.cr_small.proofs.Cuts.{both, cut-word, cut-blank, cut-word_byte, cut-alone, word_not_blank, and_false}
+use Rattle.cr_small.proofs.Cuts.{both, cut-word, cut-blank, cut-word_byte, cut-alone, word_not_blank}
 
 -- a token's bytes, and what may stand behind them
 abbrev pub IsWord : List ℕ → Type 0

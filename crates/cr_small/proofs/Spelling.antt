@@ -1,12 +1,12 @@
 -- Tokens that denote something are names, and names are words.
-use Rattle.std.proofs.Common.{◌≡◌, ◌⊎◌, inl, inr, ℕ, ◌+◌, ◌<◌, Bool, true, false, not, ◌&&◌, ◌||◌, List, [], ◌∷◌, ◌++◌, length, map, Option, Some, None, refl, sym, ap, ◌∙◌, subst, arith}
+use Rattle.std.proofs.Common.{◌≡◌, inl, inr, ℕ, ◌+◌, Bool, true, false, not, ◌&&◌, ◌||◌, List, [], ◌∷◌, ◌++◌, map, Option, Some, None, refl, sym, ap, ◌∙◌, subst, arith}
 use Rattle.std.specs.Prelude.{if◌then◌else◌, bytes_eq, codes, ◌==◌}
 use Rattle.std.specs.List.{flat_map, zip, list_all}
 use Rattle.std.specs.Option.{option_map, option_and_then}
 use Rattle.cr_base.specs.Names.{is_word_byte, is_digit, starts_name, is_identifier, is_keyword, keywords}
 use Rattle.cr_small.specs.Tokens.{Token}
 use Rattle.cr_small.specs.Terminals.{is_name, is_number, punctuator, terminal_of}
-use Rattle.cr_small.specs.Tree.{Item, number, mention, call, Sum, Statement, local, returns, evaluates, External, object, prototype, definition, Leaf, item_leaves, more_leaves, sum_leaves, initialiser_leaves, object_leaves, statement_leaves, function_leaves, opening, closing, external_leaves, leaves, parts, plain, Derives}
+use Rattle.cr_small.specs.Tree.{Item, number, mention, call, Sum, Statement, local, returns, evaluates, External, object, prototype, definition, Leaf, item_leaves, more_leaves, sum_leaves, initialiser_leaves, object_leaves, statement_leaves, closing, external_leaves, leaves, plain}
 use Rattle.cr_small.specs.Resolution.{Bindings, Bound, bound, resolved, file_scope}
 use Rattle.cr_small.specs.Renaming.{Target, target_of, target_at, covers}
 use Rattle.cr_small.specs.SmallForm.{IsWellFormed}

@@ -10,7 +10,6 @@ use Rattle.cr_small.specs.declared.grammar.Part.{Part}
 use Rattle.cr_small.specs.declared.grammar.Part.TheVariants as part
 use Rattle.cr_small.specs.declared.scopes.Symbol.{Symbol}
 use Rattle.cr_small.specs.declared.scopes.Scopes.{Scopes}
-use Rattle.cr_small.specs.declared.binder.Denotation.{Denotation}
 use Rattle.cr_small.specs.declared.binder.Binding.{Binding}
 
 abbrev pub symbol_of : Entry → Symbol

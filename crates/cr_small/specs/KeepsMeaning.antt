@@ -1,6 +1,6 @@
 -- What it means that a rename keeps the meaning of a text: the edited text has the same tokens but for the name,
 -- the same tree, and each token denotes what it denoted.
-use Rattle.std.specs.Prelude.{ℕ, ◌≡◌, ◌↔◌, Bool, true, false, List, [], ◌∷◌, length, map, slice_get, Option, Some, None, if◌then◌else◌, ◌==◌}
+use Rattle.std.specs.Prelude.{ℕ, ◌≡◌, ◌↔◌, Bool, true, false, List, length, map, slice_get, Option, Some, if◌then◌else◌, ◌==◌}
 use Rattle.std.specs.List.{list_any, zip}
 use Rattle.std.specs.Option.{option_map}
 use Rattle.cr_base.specs.Substitution.{shifted, substituted}

@@ -1,5 +1,5 @@
 -- A rename in a text of the small form: what stands at an offset, and where its entity stands.
-use Rattle.std.specs.Prelude.{ℕ, ◌≡◌, ◌+◌, ◌<◌, Bool, true, false, ◌&&◌, List, [], ◌∷◌, length, map, Option, Some, None, if◌then◌else◌, ◌==◌, nat_le, nat_lt, bytes_eq}
+use Rattle.std.specs.Prelude.{ℕ, ◌≡◌, ◌+◌, ◌<◌, Bool, false, ◌&&◌, List, [], ◌∷◌, length, map, Option, Some, None, if◌then◌else◌, ◌==◌, nat_le, nat_lt, bytes_eq}
 use Rattle.std.specs.List.{list_any, filter, zip}
 use Rattle.cr_base.specs.Substitution.{Rise}
 use Rattle.cr_small.specs.Tokens.{Token, cut}

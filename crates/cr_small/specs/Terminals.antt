@@ -1,6 +1,6 @@
 -- What a token is in the grammar of the small form.
-use Rattle.std.specs.Prelude.{ℕ, Bool, true, false, not, ◌&&◌, ◌||◌, List, [], ◌∷◌, length, if◌then◌else◌, ◌==◌, nat_lt, bytes_eq, codes}
-use Rattle.std.specs.List.{list_all, list_any}
+use Rattle.std.specs.Prelude.{ℕ, Bool, false, not, ◌&&◌, ◌||◌, List, [], ◌∷◌, length, if◌then◌else◌, ◌==◌, nat_lt, bytes_eq, codes}
+use Rattle.std.specs.List.{list_all}
 use Rattle.cr_base.specs.Names.{is_digit, is_identifier, is_keyword}
 use Rattle.cr_small.specs.Tokens.{Token}
 use Rattle.cr_small.specs.declared.terminal.Terminal.{Terminal}

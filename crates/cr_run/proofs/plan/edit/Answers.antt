@@ -1,10 +1,9 @@
-use Rattle.std.proofs.Common.{◌≡◌, ◌<◌, map, sym, ap, ◌∙◌, subst, List, ℕ, length}
+use Rattle.std.proofs.Common.{◌≡◌, sym, ap, ◌∙◌, subst, length}
 use Rattle.std.specs.List.{zip}
-use Rattle.cr_base.specs.Substitution.{Rise, substituted}
-use Rattle.cr_small.specs.Seen.{token_of, target_of_code}
+use Rattle.cr_base.specs.Substitution.{Rise}
+use Rattle.cr_small.specs.Seen.{target_of_code}
 use Rattle.cr_small.specs.Tokens.{cut}
 use Rattle.cr_small.specs.Renaming.{places_of}
-use Rattle.cr_run.specs.Report.{report_text}
 use Rattle.cr_run.proofs.EditLemmas.{edited_is}
 use Rattle.cr_run.proofs.plan.edit.Goals as goal
 

@@ -1,4 +1,4 @@
-use Rattle.std.proofs.Common.{◌≡◌, map, sym, ap, ◌∙◌, subst, Some, None, List, ℕ, length}
+use Rattle.std.proofs.Common.{◌≡◌, map, sym, ap, ◌∙◌, subst, Some, List}
 use Rattle.std.specs.Prelude.{bytes_eq}
 use Rattle.std.specs.List.{zip}
 use Rattle.std.specs.Option.{option_map}

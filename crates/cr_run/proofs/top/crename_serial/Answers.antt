@@ -1,4 +1,4 @@
-use Rattle.std.proofs.Common.{sym, ◌∙◌, ap, inl, inr, subst, map, Vec, ℕ, Global, List, ◌≡◌, ◌⊎◌}
+use Rattle.std.proofs.Common.{sym, ◌∙◌, inl, subst, map, Vec, ℕ, Global, ◌≡◌, ◌⊎◌}
 use Rattle.std.specs.Prelude.{string_bytes}
 use Rattle.cr_run.specs.Top.{decided_status}
 use Rattle.cr_run.proofs.TopLemmas.{told_read, told_memory, complete_ok, complete_err}

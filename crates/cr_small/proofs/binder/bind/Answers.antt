@@ -1,4 +1,4 @@
-use Rattle.std.proofs.Common.{get_or, arith, subst, Some}
+use Rattle.std.proofs.Common.{get_or, arith, subst}
 use Rattle.cr_small.specs.Holding.{Answers}
 use Rattle.cr_small.specs.Resolution.{bound}
 use Rattle.cr_small.specs.declared.grammar.Part.TheVariants as part

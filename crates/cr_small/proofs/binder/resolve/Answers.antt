@@ -1,4 +1,4 @@
-use Rattle.std.proofs.Common.{refl, sym, ap, ◌∙◌, subst, map, Some, rules}
+use Rattle.std.proofs.Common.{sym, ap, ◌∙◌, subst, map, Some, rules}
 use Rattle.std.specs.Option.{option_map}
 use Rattle.cr_small.specs.Seen.{token_of}
 use Rattle.cr_small.specs.Holding.{AreBraced}

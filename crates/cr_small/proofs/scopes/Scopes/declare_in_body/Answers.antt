@@ -1,4 +1,4 @@
-use Rattle.std.proofs.Common.{sym, refl, subst, ap, ◌∙◌, Some}
+use Rattle.std.proofs.Common.{sym, refl, subst, ◌∙◌, Some}
 use Rattle.cr_small.specs.Holding.{Answers}
 use Rattle.cr_small.specs.Resolution.{declared, entry_at}
 use Rattle.cr_small.proofs.Maps.{clash_where_some, declared_in_body, none_where_not}

@@ -1,4 +1,4 @@
-use Rattle.std.proofs.Common.{sym, refl, subst, ap, ◌∙◌, Some}
+use Rattle.std.proofs.Common.{sym, subst, ◌∙◌, Some}
 use Rattle.cr_small.specs.Holding.{Answers}
 use Rattle.cr_small.specs.Resolution.{declared, entry_at}
 use Rattle.cr_small.proofs.Maps.{again_in_file, declared_in_file}

@@ -1,4 +1,4 @@
-use Rattle.std.proofs.Common.{sym, ap, ◌∙◌, subst, Some}
+use Rattle.std.proofs.Common.{sym, subst, Some}
 use Rattle.cr_small.specs.Holding.{Answers}
 use Rattle.cr_small.specs.Resolution.{mentioned}
 use Rattle.cr_small.specs.Declarations.{lookup}
