@@ -1,0 +1,4 @@
+pub mod OneToken
+pub mod Tokens
+pub mod Substitution
+pub mod Expansion

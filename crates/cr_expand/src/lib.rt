@@ -1,0 +1,6 @@
+//! Macro expansion with hide sets.
+#![tactic(auto)]
+
+use cr_base::List;
+
+pub use cr_base::Role;
