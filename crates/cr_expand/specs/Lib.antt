@@ -2,3 +2,4 @@ pub mod OneToken
 pub mod Tokens
 pub mod Substitution
 pub mod Expansion
+pub mod Laws
