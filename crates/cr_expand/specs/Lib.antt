@@ -1,0 +1,5 @@
+pub mod OneToken
+pub mod Tokens
+pub mod Substitution
+pub mod Expansion
+pub mod Laws
