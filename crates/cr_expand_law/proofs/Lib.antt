@@ -3,3 +3,4 @@ pub mod Renamed
 pub mod Items
 pub mod Calls
 pub mod Law
+mod Rows
