@@ -1,0 +1,4 @@
+pub mod Constants
+pub mod Symbols
+pub mod Reading
+pub mod Grammar
