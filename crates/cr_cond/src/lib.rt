@@ -3,6 +3,7 @@
 
 ghost use Rattle.cr_cond.specs.Grammar.{ReadsTheGrammar};
 
+mod arithmetic;
 mod symbol;
 
 /// Why an `#if` list has no value, or want of memory.
