@@ -1,3 +1,8 @@
 pub mod Sound
 pub mod Complete
+pub mod Room
+pub mod Accepts
+pub mod Stacked
+pub mod OneTree
+pub mod Made
 mod Rows

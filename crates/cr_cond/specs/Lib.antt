@@ -3,3 +3,4 @@ pub mod Symbols
 pub mod Reading
 pub mod Grammar
 pub mod Value
+pub mod Machine

@@ -4,6 +4,7 @@
 ghost use Rattle.cr_cond.specs.Grammar.{ReadsTheGrammar};
 
 mod arithmetic;
+mod machine;
 mod symbol;
 
 /// Why an `#if` list has no value, or want of memory.
