@@ -1,5 +1,5 @@
 -- Reading symbols from left to right, with a stack of what is open, topmost first.
-use Rattle.std.specs.Prelude.{ℕ, Bool, true, false, ◌&&◌, ◌||◌, nat_le, if◌then◌else◌, List, [], ◌∷◌, Option, Some, None, is_some, Result, Ok, Err}
+use Rattle.std.specs.Prelude.{◌≡◌, ℕ, Bool, true, false, ◌&&◌, ◌||◌, nat_le, if◌then◌else◌, List, [], ◌∷◌, Option, Some, None, is_some, Result, Ok, Err}
 use Rattle.cr_cond.specs.declared.symbol.Value.{Value}
 use Rattle.cr_cond.specs.declared.symbol.Sign.{Sign}
 use Rattle.cr_cond.specs.declared.symbol.Op.{Op}
@@ -12,7 +12,7 @@ use Rattle.cr_cond.specs.declared.machine.Hand.{Hand}
 use Rattle.cr_cond.specs.declared.machine.Hand.TheVariants.{Waits, Holds, Refused}
 use Rattle.cr_cond.specs.Symbols.{looseness}
 use Rattle.cr_cond.specs.Reading.{Tree, Leaf, Signed, Binary, Choice}
-use Rattle.cr_cond.specs.Value.{Outcome, and_then, is_zero, with_sign, by_left, as_type, is_unsigned_by, is_unsigned_sign, is_unsigned_leaf, is_unsigned, leaf, eval, has_constants}
+use Rattle.cr_cond.specs.Value.{Outcome, and_then, is_zero, with_sign, by_left, typed, is_unsigned_by, is_unsigned_sign, is_unsigned_leaf, is_unsigned, leaf, eval, has_constants}
 
 -- what is made of operands, signs and operators
 pub record Making (A : Type 0) : Type 0 where
@@ -37,11 +37,14 @@ part_signed s a = record { unsigned = is_unsigned_sign a.unsigned s; constants =
 abbrev pub part_binary : Op → Part → Part → Part
 part_binary op a b = record { unsigned = is_unsigned_by a.unsigned b.unsigned op; constants = a.constants && b.constants; value = and_then a.value (λ x. by_left x b.value op) }
 
+abbrev pub chosen : Part → Part → Value → Outcome
+chosen a b x = and_then (if is_zero x then b.value else a.value) (typed (a.unsigned || b.unsigned))
+
 abbrev pub part_choice : Part → Part → Part → Part
 part_choice c a b = record {
   unsigned = a.unsigned || b.unsigned;
   constants = c.constants && a.constants && b.constants;
-  value = and_then c.value (λ x. and_then (if is_zero x then b.value else a.value) (λ y. Ok (as_type (a.unsigned || b.unsigned) y)));
+  value = and_then c.value (chosen a b);
 }
 
 abbrev pub parts : Making Part
@@ -67,18 +70,23 @@ pub record State (A : Type 0) : Type 0 where
   pub frames : List (Frame A)
   pub hand : Hand A
 
+abbrev pub state_of : {A : Type 0} → List (Frame A) → Hand A → State A
+state_of xs hand = record { frames = xs; hand = hand }
+
 -- the frames that bind at most so loosely are closed
 abbrev pub reduced : {A : Type 0} → Making A → ℕ → A → List (Frame A) → List (Frame A) × A
 reduced m n t [] = ([], t)
 reduced m n t (x ∷ xs) = if nat_le (level x) n then reduced m n (closed m t x) xs else (x ∷ xs, t)
 
 abbrev pub at_colon : {A : Type 0} → A → List (Frame A) → State A
+at_colon t [] = record { frames = []; hand = Refused }
 at_colon t (f.Test c ∷ xs) = record { frames = f.Middle c t ∷ xs; hand = Waits }
-at_colon t xs = record { frames = xs; hand = Refused }
+at_colon t (x ∷ xs) = record { frames = xs; hand = Refused }
 
 abbrev pub at_close : {A : Type 0} → A → List (Frame A) → State A
+at_close t [] = record { frames = []; hand = Refused }
 at_close t (f.Bracket ∷ xs) = record { frames = xs; hand = Holds t }
-at_close t xs = record { frames = xs; hand = Refused }
+at_close t (x ∷ xs) = record { frames = xs; hand = Refused }
 
 abbrev pub pushed : {A : Type 0} → Frame A → List (Frame A) → State A
 pushed x xs = record { frames = x ∷ xs; hand = Waits }
@@ -123,3 +131,12 @@ run m s (x ∷ xs) = run m (step m x s.frames s.hand) xs
 
 abbrev pub start : {A : Type 0} → State A
 start = record { frames = []; hand = Waits }
+
+-- whether the topmost frame binds at most so loosely
+abbrev pub IsShut : {A : Type 0} → ℕ → List (Frame A) → Bool → Type 0
+IsShut n [] b = Unit {0}
+IsShut n (x ∷ xs) b = nat_le (level x) n ≡ b
+
+abbrev pub is_bottom : {A : Type 0} → List (Frame A) → Bool
+is_bottom [] = true
+is_bottom (x ∷ xs) = false

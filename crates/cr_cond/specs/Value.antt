@@ -222,12 +222,15 @@ abbrev pub as_type : Bool → Value → Value
 as_type true a = v.Unsigned (bits a)
 as_type false a = a
 
+abbrev pub typed : Bool → Value → Outcome
+typed unsigned a = Ok (as_type unsigned a)
+
 -- the first fault of an evaluation is the leftmost
 abbrev pub eval : Tree → Outcome
 eval (Leaf a) = leaf a
 eval (Signed s a) = and_then (eval a) (λ x. with_sign x s)
 eval (Binary op a b) = and_then (eval a) (λ x. by_left x (eval b) op)
-eval (Choice c a b) = and_then (eval c) (λ x. and_then (if is_zero x then eval b else eval a) (λ y. Ok (as_type (is_unsigned a || is_unsigned b) y)))
+eval (Choice c a b) = and_then (eval c) (λ x. and_then (if is_zero x then eval b else eval a) (typed (is_unsigned a || is_unsigned b)))
 
 -- each operand is a constant that may stand there
 abbrev pub has_constants : Tree → Bool

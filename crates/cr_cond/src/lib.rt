@@ -5,6 +5,8 @@ ghost use Rattle.cr_cond.specs.Grammar.{ReadsTheGrammar};
 
 mod arithmetic;
 mod machine;
+mod part;
+mod stack;
 mod symbol;
 
 /// Why an `#if` list has no value, or want of memory.
