@@ -5,4 +5,5 @@ pub mod Accepts
 pub mod Stacked
 pub mod OneTree
 pub mod Made
+pub mod Numbers
 mod Rows

@@ -1,5 +1,5 @@
 -- Integer and character constants (C11 6.4.4.1, 6.4.4.4).
-use Rattle.std.specs.Prelude.{ℕ, ◌+◌, ◌-◌, ◌*◌, ◌^◌, Bool, true, false, not, ◌&&◌, ◌||◌, ◌==◌, nat_lt, nat_le, if◌then◌else◌, List, [], ◌∷◌, length, bytes_eq, codes, Option, Some, None, pos}
+use Rattle.std.specs.Prelude.{ℕ, ◌+◌, ◌-◌, ◌*◌, ◌^◌, Bool, true, false, not, ◌&&◌, ◌||◌, ◌==◌, nat_lt, nat_le, if◌then◌else◌, List, [], ◌∷◌, length, drop, bytes_eq, codes, Option, Some, None, pos}
 use Rattle.std.specs.List.{list_any, slice_split}
 use Rattle.cr_base.specs.Names.{is_digit}
 use Rattle.cr_base.specs.declared.token.PpKind.{PpKind}
@@ -43,35 +43,39 @@ plain_suffixes = codes " l L ll LL"
 unfoldable pub unsigned_suffixes : List ℕ
 unsigned_suffixes = codes "u U ul uL ull uLL Ul UL Ull ULL lu lU llu llU Lu LU LLu LLU"
 
-abbrev pub unsigned_below : ℕ → Option Value
-unsigned_below n = if nat_lt n (2 ^ 64) then Some (Unsigned n) else None
+-- a number that has 64 bits
+abbrev pub word : ℕ → Option ℕ
+word n = if nat_lt n (2 ^ 64) then Some n else None
 
-abbrev pub signed_below : ℕ → Option Value
-signed_below n = if nat_lt n (2 ^ 63) then Some (Signed (pos n)) else None
+abbrev pub unsigned_of : Option ℕ → Option Value
+unsigned_of None = None
+unsigned_of (Some n) = Some (Unsigned n)
 
 -- a number without a suffix that makes it unsigned; one that isn't decimal is unsigned where it is too large
-abbrev pub plain : Bool → ℕ → Option Value
-plain true n = signed_below n
-plain false n = if nat_lt n (2 ^ 63) then Some (Signed (pos n)) else unsigned_below n
+abbrev pub plain : Bool → Option ℕ → Option Value
+plain is_decimal None = None
+plain is_decimal (Some n) = if nat_lt n (2 ^ 63) then Some (Signed (pos n)) else if is_decimal then None else Some (Unsigned n)
 
-abbrev pub suffixed : Bool → ℕ → List ℕ → Option Value
+abbrev pub suffixed : Bool → Option ℕ → List ℕ → Option Value
 suffixed is_decimal n suffix =
-    if is_among suffix unsigned_suffixes then unsigned_below n
+    if is_among suffix unsigned_suffixes then unsigned_of n
     else if is_among suffix plain_suffixes then plain is_decimal n
     else None
 
 -- some digits and a suffix
 abbrev pub integer_of : ℕ → List ℕ → Option Value
 integer_of base text =
-    if starts_with_digit base text then suffixed (base == 10) (number base 0 text) (after_digits base text) else None
+    if starts_with_digit base text then suffixed (base == 10) (word (number base 0 text)) (after_digits base text) else None
+
+-- one that begins with 0; rest is what stands behind the 0
+abbrev pub prefixed : List ℕ → List ℕ → Option Value
+prefixed text [] = integer_of 8 text
+prefixed text (b ∷ bs) = if b == 120 || b == 88 then integer_of 16 bs else integer_of 8 text
 
 -- an integer constant that has 64 bits: hexadecimal behind `0x`, octal where it begins with 0, or decimal
 abbrev pub integer : List ℕ → Option Value
 integer [] = None
-integer (a ∷ []) = integer_of (if a == 48 then 8 else 10) (a ∷ [])
-integer (a ∷ b ∷ bs) =
-    if a == 48 && (b == 120 || b == 88) then integer_of 16 bs
-    else integer_of (if a == 48 then 8 else 10) (a ∷ b ∷ bs)
+integer (a ∷ bs) = if a == 48 then prefixed (a ∷ bs) bs else integer_of 10 (a ∷ bs)
 
 -- what the letter of an escape stands for
 abbrev pub simple_escape : ℕ → Option ℕ
@@ -89,30 +93,37 @@ simple_escape b =
 -- the closing quote alone
 abbrev pub is_quote : List ℕ → Bool
 is_quote [] = false
-is_quote (b ∷ bs) = b == 39 && (length bs == 0)
+is_quote (b ∷ []) = b == 39
+is_quote (b ∷ c ∷ bs) = false
 
 -- digits, at least one, and the quote
 abbrev pub digits_and_quote : ℕ → List ℕ → Option ℕ
-digits_and_quote base text = if starts_with_digit base text && is_quote (after_digits base text) then Some (number base 0 text) else None
+digits_and_quote base text = if starts_with_digit base text && is_quote (after_digits base text) then word (number base 0 text) else None
+
+-- at most three digits
+abbrev pub octal_escape : List ℕ → Option ℕ
+octal_escape text = if nat_le (length text) 4 then digits_and_quote 8 text else None
+
+abbrev pub letter_escape : ℕ → List ℕ → Option ℕ
+letter_escape b rest = if is_quote rest then simple_escape b else None
 
 -- An escape and the quote, behind a backslash: `x` and digits, one to three octal digits, or a letter.
 abbrev pub escape : List ℕ → Option ℕ
 escape [] = None
 escape (b ∷ bs) =
     if b == 120 then digits_and_quote 16 bs
-    else if is_digit_of 8 b then (if nat_le (length bs) 3 then digits_and_quote 8 (b ∷ bs) else None)
-    else if is_quote bs then simple_escape b
-    else None
+    else if is_digit_of 8 b then octal_escape (b ∷ bs)
+    else letter_escape b bs
 
 -- one element of a character constant and the quote
 abbrev pub element : List ℕ → Option ℕ
 element [] = None
 element (a ∷ bs) = if a == 92 then escape bs else if is_quote bs then Some a else None
 
--- behind the first quote
-abbrev pub character : List ℕ → Option ℕ
-character [] = None
-character (b ∷ bs) = if b == 39 then element bs else character bs
+-- what stands behind the first quote
+abbrev pub after_quote : List ℕ → List ℕ
+after_quote [] = []
+after_quote (b ∷ bs) = if b == 39 then bs else after_quote bs
 
 -- one byte, or one escape, below 128
 abbrev pub below_128 : Option ℕ → Option Value
@@ -122,5 +133,5 @@ below_128 (Some n) = if nat_lt n 128 then Some (Signed (pos n)) else None
 -- what a constant stands for, if it is one
 abbrev pub constant : PpKind → List ℕ → Option Value
 constant Number text = integer text
-constant Char text = below_128 (character text)
+constant Char text = below_128 (element (after_quote text))
 constant _ text = None

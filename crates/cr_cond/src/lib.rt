@@ -4,6 +4,7 @@
 ghost use Rattle.cr_cond.specs.Grammar.{ReadsTheGrammar};
 
 mod arithmetic;
+mod constant;
 mod machine;
 mod part;
 mod stack;
