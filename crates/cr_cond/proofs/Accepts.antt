@@ -1,21 +1,14 @@
 -- What the symbols spell is read by the machine.
-use Rattle.std.proofs.Common.{◌≡◌, ℕ, zero, suc, ◌-◌, ◌≤◌, ◌<◌, Bool, true, false, cond, List, [], ◌∷◌, ◌++◌, refl, ap, sym, ◌∙◌, subst, arith, Some, None, Option, append-nil, append_assoc}
-use Rattle.std.specs.Prelude.{nat_le}
-use Rattle.std.proofs.lemmas.Bool.Decides.{nat_tests}
-use Rattle.cr_cond.specs.declared.symbol.Value.{Value}
-use Rattle.cr_cond.specs.declared.symbol.Sign.{Sign}
-use Rattle.cr_cond.specs.declared.symbol.Op.{Op}
+use Rattle.std.proofs.Common.{◌≡◌, ℕ, suc, ◌≤◌, List, [], ◌∷◌, ◌++◌, refl, ap, sym, ◌∙◌, subst, arith, Some, append-nil, append_assoc}
 use Rattle.cr_cond.specs.declared.symbol.Symbol.{Symbol}
-use Rattle.cr_cond.specs.declared.symbol.Symbol.TheVariants.{Operand, Prefix, Infix, Question, Colon, Open, Close}
-use Rattle.cr_cond.specs.declared.machine.Frame.{Frame}
+use Rattle.cr_cond.specs.declared.symbol.Symbol.TheVariants.{Infix, Question, Colon, Close}
 use Rattle.cr_cond.specs.declared.machine.Frame.TheVariants as f
-use Rattle.cr_cond.specs.declared.machine.Hand.{Hand}
-use Rattle.cr_cond.specs.declared.machine.Hand.TheVariants.{Waits, Holds, Refused}
+use Rattle.cr_cond.specs.declared.machine.Hand.TheVariants.{Waits, Holds}
 use Rattle.cr_cond.specs.Symbols.{looseness}
-use Rattle.cr_cond.specs.Reading.{Tree, Leaf, Signed, Binary, Choice}
+use Rattle.cr_cond.specs.Reading.{Tree, Leaf}
 use Rattle.cr_cond.specs.Grammar.{Spells, leaf, sign, brackets, binary, chosen, looser}
-use Rattle.cr_cond.specs.Machine.{trees, level, closed, State, reduced, at_colon, at_close, pushed, step, whole, finished, run, start}
-use Rattle.cr_cond.proofs.Room.{Frames, room, loose_most, loose_least, open_frame, shut_frame, stays_open}
+use Rattle.cr_cond.specs.Machine.{trees, State, reduced, at_colon, at_close, pushed, whole, run, start}
+use Rattle.cr_cond.proofs.Room.{Frames, room, loose_most, open_frame, shut_frame, stays_open}
 
 abbrev waits : Frames → State Tree
 waits fs = record { frames = fs; hand = Waits }

@@ -6,4 +6,5 @@ pub mod Stacked
 pub mod OneTree
 pub mod Made
 pub mod Numbers
+pub mod Going
 mod Rows

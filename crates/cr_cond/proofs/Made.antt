@@ -1,5 +1,5 @@
 -- What is known of the parts is what is known of the trees.
-use Rattle.std.proofs.Common.{◌≡◌, ℕ, Bool, true, false, cond, List, [], ◌∷◌, map, refl, ap, sym, ◌∙◌, Some, None, Option}
+use Rattle.std.proofs.Common.{◌≡◌, ℕ, Bool, true, false, cond, List, [], ◌∷◌, map, refl, ap, ◌∙◌}
 use Rattle.std.specs.Prelude.{nat_le, option_map}
 use Rattle.cr_cond.specs.declared.symbol.Symbol.{Symbol}
 use Rattle.cr_cond.specs.declared.symbol.Symbol.TheVariants.{Operand, Prefix, Infix, Question, Colon, Open, Close, Odd}
@@ -10,7 +10,7 @@ use Rattle.cr_cond.specs.declared.machine.Hand.{Hand}
 use Rattle.cr_cond.specs.declared.machine.Hand.TheVariants.{Waits, Holds, Refused}
 use Rattle.cr_cond.specs.Symbols.{looseness}
 use Rattle.cr_cond.specs.Reading.{Tree}
-use Rattle.cr_cond.specs.Machine.{trees, parts, part_of, level, closed, State, reduced, at_colon, at_close, pushed, waited, held, step, whole, finished, run, start}
+use Rattle.cr_cond.specs.Machine.{trees, parts, part_of, level, closed, State, reduced, at_colon, at_close, pushed, waited, held, step, whole, finished, run}
 
 abbrev frame_of : Frame Tree → Frame Part
 frame_of (f.Sign s) = f.Sign s

@@ -1,5 +1,5 @@
 -- The machine reads the tree of the definition.
-use Rattle.std.proofs.Common.{◌≡◌, List, refl, ap, sym, ◌∙◌, subst, Some, None, Option}
+use Rattle.std.proofs.Common.{◌≡◌, List, refl, sym, ◌∙◌, Some, None, Option}
 use Rattle.cr_cond.specs.declared.symbol.Symbol.{Symbol}
 use Rattle.cr_cond.specs.Reading.{Tree, read}
 use Rattle.cr_cond.specs.Grammar.{SpellsAny}

@@ -1,5 +1,5 @@
 -- Worked examples, computed.
-use Rattle.std.specs.Prelude.{◌≡◌, ℕ, Bool, ◌==◌, if◌then◌else◌, List, [], ◌∷◌, map, codes, refl, Some, Result, Ok, Err, ℤ, pos, negsuc}
+use Rattle.std.specs.Prelude.{◌≡◌, ℕ, ◌==◌, if◌then◌else◌, List, [], ◌∷◌, map, codes, refl, Some, Result, Ok, Err, ℤ, pos, negsuc}
 use Rattle.std.specs.List.{slice_split}
 use Rattle.cr_base.specs.Names.{is_digit, starts_name}
 use Rattle.cr_base.specs.declared.token.PpKind.{PpKind}

@@ -2,7 +2,6 @@
 use Rattle.std.proofs.Common.{◌≡◌, ℕ, zero, suc, Bool, true, false, cond, List, [], ◌∷◌, ◌++◌, length, refl, ap, sym, subst, arith, Some, None, Option, append_assoc, append-nil}
 use Rattle.std.specs.Prelude.{◌==◌, ◌&&◌}
 use Rattle.std.proofs.lemmas.Bool.Decides.{nat_tests}
-use Rattle.cr_cond.specs.declared.symbol.Value.{Value}
 use Rattle.cr_cond.specs.declared.symbol.Sign.{Sign}
 use Rattle.cr_cond.specs.declared.symbol.Op.{Op}
 use Rattle.cr_cond.specs.declared.symbol.Symbol.{Symbol}

@@ -1,8 +1,7 @@
 -- What the machine reads is what the symbols spell.
-use Rattle.std.proofs.Common.{◌≡◌, ℕ, zero, suc, ◌+◌, ◌-◌, ◌≤◌, ◌<◌, Bool, true, false, cond, List, [], ◌∷◌, ◌++◌, refl, ap, sym, ◌∙◌, subst, arith, Some, None, Option, append-nil, append_assoc}
+use Rattle.std.proofs.Common.{◌≡◌, ℕ, zero, suc, ◌+◌, ◌-◌, ◌≤◌, ◌<◌, Bool, true, false, cond, List, [], ◌∷◌, ◌++◌, refl, ap, sym, ◌∙◌, subst, arith, append-nil, append_assoc}
 use Rattle.std.specs.Prelude.{nat_le}
 use Rattle.std.proofs.lemmas.Bool.Decides.{nat_tests}
-use Rattle.cr_cond.specs.declared.symbol.Sign.{Sign}
 use Rattle.cr_cond.specs.declared.symbol.Op.{Op}
 use Rattle.cr_cond.specs.declared.symbol.Symbol.{Symbol}
 use Rattle.cr_cond.specs.declared.symbol.Symbol.TheVariants.{Operand, Prefix, Infix, Question, Colon, Open, Close, Odd}
@@ -11,9 +10,9 @@ use Rattle.cr_cond.specs.declared.machine.Frame.TheVariants as f
 use Rattle.cr_cond.specs.declared.machine.Hand.{Hand}
 use Rattle.cr_cond.specs.declared.machine.Hand.TheVariants.{Waits, Holds, Refused}
 use Rattle.cr_cond.specs.Symbols.{looseness}
-use Rattle.cr_cond.specs.Reading.{Tree, Leaf, Signed, Binary, Choice}
+use Rattle.cr_cond.specs.Reading.{Tree, Signed, Binary, Choice}
 use Rattle.cr_cond.specs.Grammar.{Spells, SpellsAny, leaf, sign, brackets, binary, chosen, looser}
-use Rattle.cr_cond.specs.Machine.{trees, level, closed, State, reduced, at_colon, at_close, pushed, refused, waited, held, step, whole, finished, run, start}
+use Rattle.cr_cond.specs.Machine.{trees, level, closed, reduced, at_colon, at_close, waited, held, step, whole, finished, run, start}
 use Rattle.cr_cond.proofs.Room.{Frames, room, loose_most, loose_least}
 
 -- the symbols that these frames stand for

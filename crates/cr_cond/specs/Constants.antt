@@ -1,5 +1,5 @@
 -- Integer and character constants (C11 6.4.4.1, 6.4.4.4).
-use Rattle.std.specs.Prelude.{ℕ, ◌+◌, ◌-◌, ◌*◌, ◌^◌, Bool, true, false, not, ◌&&◌, ◌||◌, ◌==◌, nat_lt, nat_le, if◌then◌else◌, List, [], ◌∷◌, length, drop, bytes_eq, codes, Option, Some, None, pos}
+use Rattle.std.specs.Prelude.{ℕ, ◌+◌, ◌-◌, ◌*◌, ◌^◌, Bool, false, ◌&&◌, ◌||◌, ◌==◌, nat_lt, nat_le, if◌then◌else◌, List, [], ◌∷◌, length, bytes_eq, codes, Option, Some, None, pos}
 use Rattle.std.specs.List.{list_any, slice_split}
 use Rattle.cr_base.specs.Names.{is_digit}
 use Rattle.cr_base.specs.declared.token.PpKind.{PpKind}

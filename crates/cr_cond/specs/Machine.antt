@@ -1,16 +1,18 @@
 -- Reading symbols from left to right, with a stack of what is open, topmost first.
-use Rattle.std.specs.Prelude.{◌≡◌, ℕ, Bool, true, false, ◌&&◌, ◌||◌, nat_le, if◌then◌else◌, List, [], ◌∷◌, Option, Some, None, is_some, Result, Ok, Err}
+use Rattle.std.specs.Prelude.{◌≡◌, ℕ, Bool, true, false, ◌&&◌, ◌||◌, nat_le, if◌then◌else◌, List, [], ◌∷◌, Option, Some, None, is_some, Err}
+use Rattle.cr_cond.specs.declared.CondFault.TheVariants.{Syntax, Constant}
 use Rattle.cr_cond.specs.declared.symbol.Value.{Value}
 use Rattle.cr_cond.specs.declared.symbol.Sign.{Sign}
 use Rattle.cr_cond.specs.declared.symbol.Op.{Op}
 use Rattle.cr_cond.specs.declared.symbol.Symbol.{Symbol}
-use Rattle.cr_cond.specs.declared.symbol.Symbol.TheVariants.{Operand, Prefix, Infix, Question, Colon, Open, Close, Odd}
+use Rattle.cr_cond.specs.declared.symbol.Symbol.TheVariants.{Operand, Prefix, Infix, Question, Colon, Open, Close}
 use Rattle.cr_cond.specs.declared.machine.Part.{Part}
 use Rattle.cr_cond.specs.declared.machine.Frame.{Frame}
 use Rattle.cr_cond.specs.declared.machine.Frame.TheVariants as f
 use Rattle.cr_cond.specs.declared.machine.Hand.{Hand}
 use Rattle.cr_cond.specs.declared.machine.Hand.TheVariants.{Waits, Holds, Refused}
-use Rattle.cr_cond.specs.Symbols.{looseness}
+use Rattle.cr_base.specs.declared.token.PpTok.{PpTok}
+use Rattle.cr_cond.specs.Symbols.{lexeme, symbol, looseness}
 use Rattle.cr_cond.specs.Reading.{Tree, Leaf, Signed, Binary, Choice}
 use Rattle.cr_cond.specs.Value.{Outcome, and_then, is_zero, with_sign, by_left, typed, is_unsigned_by, is_unsigned_sign, is_unsigned_leaf, is_unsigned, leaf, eval, has_constants}
 
@@ -140,3 +142,22 @@ IsShut n (x ∷ xs) b = nat_le (level x) n ≡ b
 abbrev pub is_bottom : {A : Type 0} → List (Frame A) → Bool
 is_bottom [] = true
 is_bottom (x ∷ xs) = false
+
+abbrev pub is_holding : {A : Type 0} → Hand A → Bool
+is_holding Waits = false
+is_holding (Holds t) = true
+is_holding Refused = false
+
+abbrev pub is_refused : {A : Type 0} → Hand A → Bool
+is_refused Waits = false
+is_refused (Holds t) = false
+is_refused Refused = true
+
+-- the value of what was read, or the fault
+abbrev pub by_part : Option Part → Outcome
+by_part None = Err Syntax
+by_part (Some a) = if a.constants then a.value else Err Constant
+
+-- what a token is where the machine stands
+abbrev pub next_symbol : List (List ℕ) → PpTok → Hand Part → Symbol
+next_symbol names t hand = symbol (is_holding hand) t.kind (lexeme names t).text

@@ -1,5 +1,5 @@
 -- What the tokens of an `#if` list are in a conditional expression (C11 6.10.1).
-use Rattle.std.specs.Prelude.{ℕ, Bool, true, false, if◌then◌else◌, List, [], ◌∷◌, map, bytes_eq, codes, slice_index_or, Option, Some, None, pos}
+use Rattle.std.specs.Prelude.{ℕ, Bool, true, false, if◌then◌else◌, List, [], ◌∷◌, map, bytes_eq, codes, slice_index_or, Some, pos}
 use Rattle.cr_base.specs.declared.token.PpKind.{PpKind}
 use Rattle.cr_base.specs.declared.token.PpKind.TheVariants.{Ident, Number, Char, Str, Punct, Stray}
 use Rattle.cr_base.specs.declared.token.PpTok.{PpTok}
@@ -16,9 +16,12 @@ pub record Lexeme : Type 0 where
   pub kind : PpKind
   pub text : List ℕ
 
--- the tokens with their texts; a number that the table of texts doesn't hold has the empty text
+-- a token with its text; a number that the table of texts doesn't hold has the empty text
+abbrev pub lexeme : List (List ℕ) → PpTok → Lexeme
+lexeme names t = record { kind = t.kind; text = slice_index_or names t.text.0 [] }
+
 abbrev pub lexemes : List (List ℕ) → List PpTok → List Lexeme
-lexemes names = map {A = PpTok} (λ t. record { kind = t.kind; text = slice_index_or names t.text.0 [] })
+lexemes names = map (lexeme names)
 
 -- how loosely an operator binds (C11 6.5.5 to 6.5.14)
 abbrev pub looseness : Op → ℕ

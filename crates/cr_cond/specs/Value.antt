@@ -1,14 +1,14 @@
 -- The value of a conditional expression (C11 6.10.1p4, 6.5.3.3 to 6.5.15), in 64 bits. That a signed result out of
 -- range is a fault, and a shift by less than 0 or more than 63 or of a negative number to the left, is an own rule
 -- of this project.
-use Rattle.std.specs.Prelude.{ℕ, ◌+◌, ◌-◌, ◌*◌, ◌^◌, ◌/◌, ◌%◌, Bool, true, false, not, ◌&&◌, ◌||◌, ◌==◌, nat_lt, nat_le, if◌then◌else◌, List, bytes_eq, codes, Option, Some, None, is_some, Result, Ok, Err, ℤ, pos, negsuc, ◌+ℤ◌, ◌-ℤ◌, ◌*ℤ◌, neg_ℤ, int_lt, int_le, int_div, int_rem, bit_and, bit_or, bit_xor}
+use Rattle.std.specs.Prelude.{◌≡◌, ℕ, ◌+◌, ◌-◌, ◌*◌, ◌^◌, ◌/◌, ◌%◌, Bool, true, false, not, ◌&&◌, ◌||◌, ◌==◌, nat_lt, nat_le, if◌then◌else◌, List, bytes_eq, codes, Option, Some, None, is_some, Result, Ok, Err, ℤ, pos, negsuc, ◌+ℤ◌, ◌-ℤ◌, ◌*ℤ◌, neg_ℤ, int_lt, int_le, int_div, int_rem, bit_and, bit_or, bit_xor}
 use Rattle.std.specs.List.{list_any}
 use Rattle.std.specs.Ordering.{int_eq}
 use Rattle.std.specs.Int.{w64, cast_unsigned, cast_signed, int_shr}
 use Rattle.cr_base.specs.declared.token.PpKind.{PpKind}
 use Rattle.cr_base.specs.declared.token.PpKind.TheVariants.{Ident}
 use Rattle.cr_cond.specs.declared.CondFault.{CondFault}
-use Rattle.cr_cond.specs.declared.CondFault.TheVariants.{Syntax, DivideByZero, Overflow, Constant, MadeDefined}
+use Rattle.cr_cond.specs.declared.CondFault.TheVariants.{Syntax, DivideByZero, Overflow, Constant, MadeDefined, OutOfMemory}
 use Rattle.cr_cond.specs.declared.symbol.Value.{Value}
 use Rattle.cr_cond.specs.declared.symbol.Value.TheVariants as v
 use Rattle.cr_cond.specs.declared.arithmetic.Operands.{Operands}
@@ -258,3 +258,12 @@ value_of ts = if list_any is_defined ts then Err MadeDefined else by_tree (read 
 abbrev pub number_of : Value → ℤ
 number_of (v.Signed z) = z
 number_of (v.Unsigned n) = pos n
+
+abbrev pub numbered : Outcome → Result ℤ CondFault
+numbered (Ok a) = Ok (number_of a)
+numbered (Err e) = Err e
+
+-- The answer is the expected one; only want of memory is free.
+abbrev pub IsAnswer : Result ℤ CondFault → Result ℤ CondFault → Type 0
+IsAnswer expected (Err OutOfMemory) = Unit {0}
+IsAnswer expected result = result ≡ expected

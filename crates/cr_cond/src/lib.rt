@@ -1,14 +1,19 @@
 //! The values of `#if` lines.
 #![tactic(auto)]
 
+ghost use Rattle.std.specs.Prelude.{◌≡◌};
 ghost use Rattle.cr_cond.specs.Grammar.{ReadsTheGrammar};
 
 mod arithmetic;
 mod constant;
 mod machine;
 mod part;
+mod reading;
 mod stack;
 mod symbol;
+
+use cr_base::OutOfMemory;
+pub use reading::value;
 
 /// Why an `#if` list has no value, or want of memory.
 #[derive(Clone, Copy, Debug, PartialEq, Eq)]
@@ -19,6 +24,16 @@ pub enum CondFault {
     Constant,
     MadeDefined,
     OutOfMemory,
+}
+
+impl From<OutOfMemory> for CondFault {
+    ghost use Rattle.cr_cond.specs.declared.CondFault.TheVariants as fault;
+
+    ghost from_gives = { λ _ e. e ≡ fault.OutOfMemory };
+
+    fn from(_: OutOfMemory) -> Self {
+        CondFault::OutOfMemory
+    }
 }
 
 /// The law that the tree that is read from a list of symbols is the one that the grammar of conditional

@@ -1,4 +1,4 @@
-use Rattle.std.proofs.Common.{rules, arith, ap, sym, ◌∙◌, ◌<◌, ◌≤◌, ◌^◌, length}
+use Rattle.std.proofs.Common.{rules, ap, sym, ◌∙◌}
 use Rattle.cr_cond.specs.Constants.{word}
 use Rattle.cr_cond.proofs.Numbers.{stays_large, stops_at, at_end}
 use Rattle.cr_cond.proofs.constant.number.Goals as goal
