@@ -41,3 +41,6 @@ impl From<OutOfMemory> for CondFault {
 pub fn reading_is_the_grammar()
     ensures { ReadsTheGrammar }
 {}
+
+#[cfg(test)]
+mod tests;
