@@ -1,3 +1,4 @@
 pub mod Work
 pub mod Equation
 mod Rows
+pub mod Pieces

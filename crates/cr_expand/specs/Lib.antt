@@ -2,4 +2,5 @@ pub mod OneToken
 pub mod Tokens
 pub mod Substitution
 pub mod Expansion
+pub mod Definition
 pub mod Laws

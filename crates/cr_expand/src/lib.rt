@@ -3,7 +3,14 @@
 
 ghost use Rattle.cr_expand.specs.Laws.{FollowsTheRules};
 
+mod definition;
+mod fault;
+mod macros;
+mod words;
+
 pub use cr_base::Role;
+pub use fault::ExpandFault;
+pub use macros::{Macro, Seen};
 
 /// The law that macro expansion is what its rules say of itself, however deep they are used. It does no work.
 pub fn expansion_follows_the_rules()
