@@ -137,7 +137,16 @@ definition_of names (t ∷ rest) = if is_macro_name names t then if_good names (
 abbrev pub definition : List Text → List PpTok → Option Macro
 definition names line = definition_of names (drop 2 line)
 
--- The first token is at this place.
+abbrev pub IsPlaced : Origin → Type 0
+IsPlaced (At place) = Unit {0}
+IsPlaced Made = ⊥
+
+-- the origin of the first token
 abbrev pub starts_at : List PpTok → Option Origin
 starts_at [] = None
 starts_at (t ∷ ts) = Some t.origin
+
+-- The first token has a place.
+abbrev pub IsFirstPlaced : List PpTok → Type 0
+IsFirstPlaced [] = ⊥
+IsFirstPlaced (t ∷ ts) = IsPlaced t.origin

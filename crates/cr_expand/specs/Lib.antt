@@ -3,4 +3,5 @@ pub mod Tokens
 pub mod Substitution
 pub mod Expansion
 pub mod Definition
+pub mod MacroTables
 pub mod Laws

@@ -5,11 +5,13 @@ ghost use Rattle.cr_expand.specs.Laws.{FollowsTheRules};
 
 mod definition;
 mod fault;
+mod macro_table;
 mod macros;
 mod words;
 
 pub use cr_base::Role;
 pub use fault::ExpandFault;
+pub use macro_table::MacroTable;
 pub use macros::{Macro, Seen};
 
 /// The law that macro expansion is what its rules say of itself, however deep they are used. It does no work.
