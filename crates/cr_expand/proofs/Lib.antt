@@ -2,3 +2,4 @@ pub mod Work
 pub mod Equation
 mod Rows
 pub mod Pieces
+pub mod Sets

@@ -4,4 +4,5 @@ pub mod Substitution
 pub mod Expansion
 pub mod Definition
 pub mod MacroTables
+pub mod HideSets
 pub mod Laws

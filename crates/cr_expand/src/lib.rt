@@ -5,6 +5,7 @@ ghost use Rattle.cr_expand.specs.Laws.{FollowsTheRules};
 
 mod definition;
 mod fault;
+mod hide_sets;
 mod macro_table;
 mod macros;
 mod words;
