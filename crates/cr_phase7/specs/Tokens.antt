@@ -1,5 +1,6 @@
 -- From preprocessing tokens to tokens (C11 5.1.1.2, phases 5 to 7; 6.4, 6.10.9).
-use Rattle.std.specs.Prelude.{ℕ, zero, suc, ◌-◌, Bool, true, false, cond, not, ◌&&◌, ◌||◌, ◌≡◌, Option, Some, None, Result, Ok, Err, List, [], ◌∷◌, ◌++◌, bytes_eq, codes, slice_index_or, slice_get}
+use Rattle.std.specs.Prelude.{ℕ, zero, suc, ◌-◌, Bool, true, false, cond, not, ◌&&◌, ◌||◌, ◌≡◌, Option, Some, None, Result, Ok, Err, List, [], ◌∷◌, ◌++◌, ◌==◌, length, bytes_eq, codes, slice_index_or, slice_get}
+use Rattle.std.specs.List.{filter, slice_split}
 use Rattle.cr_base.specs.declared.token.PpKind.{PpKind}
 use Rattle.cr_base.specs.declared.token.PpKind.TheVariants as p
 use Rattle.cr_base.specs.declared.token.PpTok.{PpTok}
@@ -9,7 +10,7 @@ use Rattle.cr_base.specs.declared.token.Tok.{Tok}
 use Rattle.cr_base.specs.declared.token.Place.{Place}
 use Rattle.cr_base.specs.declared.token.Name.{Name}
 use Rattle.cr_base.specs.declared.token.Origin.TheVariants.{At}
-use Rattle.cr_base.specs.Names.{is_keyword}
+use Rattle.cr_base.specs.Names.{keywords, is_keyword}
 use Rattle.cr_phase7.specs.Numbers.{is_among, is_number}
 use Rattle.cr_phase7.specs.declared.tokens.Phase7Fault.{Phase7Fault}
 use Rattle.cr_phase7.specs.declared.tokens.Phase7Fault.TheVariants.{BadToken, OutOfMemory}
@@ -25,6 +26,10 @@ further_words = codes "__attribute__ __asm__ __extension__ __builtin_va_list __b
 
 abbrev pub is_word : List ℕ → Bool
 is_word text = is_keyword text || is_among text further_words
+
+-- the keywords and the further words that have this length
+abbrev pub words_of_length : ℕ → List (List ℕ)
+words_of_length n = filter (λ word. length word == n) (keywords ++ slice_split (λ b. b == 32) further_words)
 
 -- `#` and `##`, also as digraphs, are no tokens
 unfoldable pub hashes : List ℕ

@@ -3,6 +3,7 @@
 
 mod number;
 mod tokens;
+mod words;
 
 pub use tokens::{Phase7Fault, tokens7};
 

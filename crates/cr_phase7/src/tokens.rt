@@ -6,9 +6,8 @@ ghost use Rattle.cr_phase7.specs.Tokens as spec;
 ghost use Rattle.cr_phase7.specs.Tokens.{text_of, kept, bad_pragma, converted, tokens_of, end_token, IsBad, AreTokens};
 
 use crate::number::{is_among, is_number};
-use cr_base::{
-    Name, NameTable, Origin, OutOfMemory, Place, PpKind, PpTok, Tok, TokKind, is_keyword,
-};
+use crate::words::is_word;
+use cr_base::{Name, NameTable, Origin, OutOfMemory, Place, PpKind, PpTok, Tok, TokKind};
 use std::alloc::{AllocError, Global};
 
 /// Why there are no tokens: a preprocessing token at this place is none, or want of memory.
@@ -38,10 +37,6 @@ impl From<AllocError> for Phase7Fault {
     }
 }
 
-// The words that this project reads beside the keywords of C11.
-const FURTHER_WORDS: &[u8] =
-    b"__attribute__ __asm__ __extension__ __builtin_va_list __builtin_va_arg __builtin_offsetof __inline__ __inline __restrict__ __restrict __const__ __volatile__ __signed__";
-
 const HASHES: &[u8] = b"# ## %: %:%:";
 
 // What is left where the pragmas go, and the site of the first that hasn't their form.
@@ -59,13 +54,6 @@ fn spelling(names: &NameTable, name: Name) -> &[u8]
     } else {
         b""
     }
-}
-
-#[tactic(auto, unfolding(crate::specs::Tokens::further_words))]
-fn is_word(text: &[u8]) -> bool
-    ensures { result ≡ spec.is_word text.now }
-{
-    is_keyword(text) || is_among(text, FURTHER_WORDS)
 }
 
 #[tactic(auto, unfolding(crate::specs::Tokens::hashes))]

@@ -1,0 +1,6 @@
+pub mod Following
+pub mod Renamed
+pub mod Items
+pub mod Calls
+pub mod Law
+mod Rows
