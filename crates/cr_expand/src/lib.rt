@@ -8,6 +8,7 @@ mod fault;
 mod hide_sets;
 mod macro_table;
 mod macros;
+mod one_token;
 mod words;
 
 pub use cr_base::Role;
