@@ -3,3 +3,4 @@ pub mod Equation
 mod Rows
 pub mod Pieces
 pub mod Sets
+pub mod Noted

@@ -5,4 +5,5 @@ pub mod Expansion
 pub mod Definition
 pub mod MacroTables
 pub mod HideSets
+pub mod Held
 pub mod Laws

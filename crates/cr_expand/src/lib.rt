@@ -5,10 +5,13 @@ ghost use Rattle.cr_expand.specs.Laws.{FollowsTheRules};
 
 mod definition;
 mod fault;
+mod held;
 mod hide_sets;
 mod macro_table;
 mod macros;
+mod notes;
 mod one_token;
+mod spelling;
 mod words;
 
 pub use cr_base::Role;
