@@ -4,3 +4,5 @@ mod Rows
 pub mod Pieces
 pub mod Sets
 pub mod Noted
+pub mod Numbers
+pub mod Bodies

@@ -6,4 +6,5 @@ pub mod Definition
 pub mod MacroTables
 pub mod HideSets
 pub mod Held
+pub mod Items
 pub mod Laws

@@ -7,10 +7,12 @@ mod definition;
 mod fault;
 mod held;
 mod hide_sets;
+mod items;
 mod macro_table;
 mod macros;
 mod notes;
 mod one_token;
+mod params;
 mod spelling;
 mod words;
 
