@@ -6,3 +6,5 @@ pub mod Sets
 pub mod Noted
 pub mod Numbers
 pub mod Bodies
+pub mod Telling
+pub mod Kept

@@ -39,6 +39,7 @@ AreKnown names sets hs = All (IsKnown names sets) hs
 pub record AreTables (names : List Text) (sets : Sets) : Type 0 where
   pub distinct : IsDistinct names
   pub named : All (λ set. All (IsNamed names) set) sets
+  pub first : set_at sets 0 ≡ []
   pub some : 0 < length sets
 
 -- the texts whose places are noted
@@ -73,3 +74,15 @@ IsCause Over e = e ≡ fault.LimitMacros
 abbrev pub Faults : {A : Type 0} → Answer A → ExpandFault → Type 0
 Faults (Gave a left events) e = e ≡ fault.OutOfMemory
 Faults (Stopped cause) e = IsCause cause e ⊎ (e ≡ fault.OutOfMemory)
+
+-- The work gave this value, and its events are noted behind those before, whatever work is left, which stays.
+pub record Does {A : Type 0} (w : Watch) (before now : List Seen) (m : Work A) (value : A) : Type 0 where
+  pub at : (left : ℕ) → Tells w before now (m left) value left
+
+-- The work stops by the cause that the fault tells, or there was no memory, whatever work is left.
+pub record Stops {A : Type 0} (m : Work A) (e : ExpandFault) : Type 0 where
+  pub at : (left : ℕ) → Faults (m left) e
+
+-- lists of tokens, as the arguments of a call
+abbrev pub all_args : List Text → Sets → List (List Held) → List (List Token)
+all_args names sets = map (all_held names sets)
