@@ -7,4 +7,5 @@ pub mod MacroTables
 pub mod HideSets
 pub mod Held
 pub mod Items
+pub mod Parts
 pub mod Laws

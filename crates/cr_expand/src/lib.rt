@@ -13,6 +13,7 @@ mod macros;
 mod notes;
 mod one_token;
 mod params;
+mod parts;
 mod spelling;
 mod words;
 
