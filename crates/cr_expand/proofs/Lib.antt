@@ -1,3 +1,10 @@
 pub mod Work
 pub mod Equation
 mod Rows
+pub mod Pieces
+pub mod Sets
+pub mod Noted
+pub mod Numbers
+pub mod Bodies
+pub mod Telling
+pub mod Kept

@@ -4,7 +4,7 @@ use Rattle.cr_base.specs.declared.token.PpKind.{PpKind}
 use Rattle.cr_base.specs.declared.token.Place.{Place}
 use Rattle.cr_base.specs.declared.token.Origin.TheVariants.{At}
 use Rattle.cr_base.specs.declared.cause.Role.TheVariants.{MacroName, Stringized, Pasted, Dropped}
-use Rattle.cr_expand.specs.OneToken.{one_token, is_blank}
+use Rattle.cr_expand.specs.OneToken.{one_token, is_punctuator, punctuators, is_white}
 use Rattle.cr_expand.specs.Tokens.{Text, Token, MacroText, Event, Rule, Taken, ArgCount, OpenCall, BadPaste, Over, Answer, Gave, Stopped}
 use Rattle.cr_expand.specs.Expansion.{Table, expand}
 
@@ -21,7 +21,7 @@ abbrev cut : Bool → ℕ → ℕ → Text → List Token
 cut space skip offset [] = []
 cut space (suc skip) offset (b ∷ bs) = cut space skip (suc offset) bs
 cut space zero offset (b ∷ bs) =
-    if is_blank (b ∷ []) then cut true zero (suc offset) bs
+    if is_white b then cut true zero (suc offset) bs
     else elim (longest (length (b ∷ bs)) (b ∷ bs)) [
       None ↦ []
     | Some (n, kind) ↦ record {
@@ -54,7 +54,7 @@ shown n (Stopped c) = None
 shown n (Gave ts left events) = Some (map {A = Token} (λ t. (if t.space then 32 ∷ [] else []) ++ t.text) ts, n - left)
 
 abbrev run : List (Text × MacroText) → Text → Option (List Text × ℕ)
-unfolding expand
+unfolding expand is_punctuator punctuators
 run ps bytes = shown 100 (expand (table ps) (toks bytes) 100)
 
 abbrev like : Text → List Text → Bool → Text → Text × MacroText
@@ -68,11 +68,11 @@ abbrev each_other : List (Text × MacroText)
 each_other = like (codes "f") (codes "a" ∷ []) false (codes "a*g") ∷ like (codes "g") (codes "a" ∷ []) false (codes "f(a)") ∷ []
 
 each_other_once : run each_other (codes "f(2)(9)") ≡ Some (codes " 2" ∷ codes "*" ∷ codes "9" ∷ codes "*" ∷ codes "g" ∷ [], 13)
-unfolding expand
+unfolding expand is_punctuator punctuators
 each_other_once = refl
 
 work_of_12_is_too_little : expand (table each_other) (toks (codes "f(2)(9)")) 12 ≡ Stopped Over
-unfolding expand
+unfolding expand is_punctuator punctuators
 work_of_12_is_too_little = refl
 
 -- one blank inside, none at the ends, and backslashes in a string's spelling
@@ -80,11 +80,11 @@ abbrev stringize : List (Text × MacroText)
 stringize = like (codes "S") (codes "x" ∷ []) false (codes "#x") ∷ []
 
 string_of_an_argument : run stringize (codes "S( a  \"b\\n\" )") ≡ Some (codes " \"a \\\"b\\\\n\\\"\"" ∷ [], 2)
-unfolding expand
+unfolding expand is_punctuator punctuators
 string_of_an_argument = refl
 
 a_backslash_is_no_string : expand (table stringize) (toks (codes "S(\\)")) 100 ≡ Stopped (BadPaste (at 0))
-unfolding expand
+unfolding expand is_punctuator punctuators
 a_backslash_is_no_string = refl
 
 -- the comma goes with an empty variable argument, and stays without a paste before another
@@ -92,49 +92,49 @@ abbrev comma_rest : List (Text × MacroText)
 comma_rest = like (codes "E") (codes "f" ∷ []) true (codes "p(f, ## __VA_ARGS__)") ∷ []
 
 the_comma_goes : run comma_rest (codes "E(1)") ≡ Some (codes " p" ∷ codes "(" ∷ codes "1" ∷ codes ")" ∷ [], 5)
-unfolding expand
+unfolding expand is_punctuator punctuators
 the_comma_goes = refl
 
 the_comma_stays : run comma_rest (codes "E(1,2)") ≡ Some (codes " p" ∷ codes "(" ∷ codes "1" ∷ codes "," ∷ codes " 2" ∷ codes ")" ∷ [], 7)
-unfolding expand
+unfolding expand is_punctuator punctuators
 the_comma_stays = refl
 
 abbrev concat : List (Text × MacroText)
 concat = like (codes "C") (codes "a" ∷ codes "b" ∷ []) false (codes "a##b") ∷ []
 
 an_arrow_is_pasted : run concat (codes "C(-,>)") ≡ Some (codes " ->" ∷ [], 2)
-unfolding expand
+unfolding expand is_punctuator punctuators
 an_arrow_is_pasted = refl
 
 no_token_is_pasted : expand (table concat) (toks (codes "C(+,/)")) 100 ≡ Stopped (BadPaste (at 0))
-unfolding expand
+unfolding expand is_punctuator punctuators
 no_token_is_pasted = refl
 
 one_argument_is_missing : expand (table concat) (toks (codes "C(1)")) 100 ≡ Stopped (ArgCount (at 0))
-unfolding expand
+unfolding expand is_punctuator punctuators
 one_argument_is_missing = refl
 
 a_parenthesis_is_missing : expand (table concat) (toks (codes "C(1")) 100 ≡ Stopped (OpenCall (at 0))
-unfolding expand
+unfolding expand is_punctuator punctuators
 a_parenthesis_is_missing = refl
 
 -- what is hidden from a pasted token is hidden from both its parts: `ab` made by `C` is the macro `ab`
 made_names_expand : run (object (codes "ab") (codes "1") ∷ concat) (codes "C(a,b)") ≡ Some (codes " 1" ∷ [], 4)
-unfolding expand
+unfolding expand is_punctuator punctuators
 made_names_expand = refl
 
 -- `()` is no argument, or one that is empty
 one_empty_argument : run (like (codes "f") [] true (codes "<__VA_ARGS__>") ∷ []) (codes "f()") ≡ Some (codes " <" ∷ codes ">" ∷ [], 3)
-unfolding expand
+unfolding expand is_punctuator punctuators
 one_empty_argument = refl
 
 a_version_and_the_file : run [] (codes "__STDC_VERSION__ __FILE__") ≡ Some (codes " 201112L" ∷ codes " \"a.c\"" ∷ [], 4)
-unfolding expand
+unfolding expand is_punctuator punctuators
 a_version_and_the_file = refl
 
 -- calls inside arguments, none of which has paid yet, are nested deeper than the work that is left
 a_cause_inside_comes_first : expand (table (like (codes "I") (codes "x" ∷ []) false (codes "x") ∷ concat)) (toks (codes "I(I(I(I(C(+,/)))))")) 1 ≡ Stopped (BadPaste (at 8))
-unfolding expand
+unfolding expand is_punctuator punctuators
 a_cause_inside_comes_first = refl
 
 abbrev texts : Answer (List Token) → Option Text
@@ -150,19 +150,19 @@ example_3 =
     ∷ like (codes "str") (codes "x" ∷ []) false (codes "# x") ∷ []
 
 example_3_first : texts (expand (table example_3) (toks (codes "f(y+1) + f(f(z)) % t(t(g)(0) + t)(1);")) 1000) ≡ Some (codes "f(2*(y+1))+f(2*(f(2*(z[0]))))%f(2*(0))+t(1);")
-unfolding expand
+unfolding expand is_punctuator punctuators
 example_3_first = refl
 
 example_3_second : texts (expand (table example_3) (toks (codes "g(x+(3,4)-w) | h 5) & m (f)^m(m);")) 1000) ≡ Some (codes "f(2*(2+(3,4)-0,1))|f(2*(~5))&f(2*(0,1))^m(0,1);")
-unfolding expand
+unfolding expand is_punctuator punctuators
 example_3_second = refl
 
 example_3_third : texts (expand (table example_3) (toks (codes "p() i[q()] = { q(1), r(2,3), r(4,), r(,5), r(,) };")) 1000) ≡ Some (codes "inti[]={1,23,4,5,};")
-unfolding expand
+unfolding expand is_punctuator punctuators
 example_3_third = refl
 
 example_3_fourth : texts (expand (table example_3) (toks (codes "char c[2][6] = { str(hello), str() };")) 1000) ≡ Some (codes "charc[2][6]={\"hello\",\"\"};")
-unfolding expand
+unfolding expand is_punctuator punctuators
 example_3_fourth = refl
 
 -- C11 6.10.3.3, its EXAMPLE: `##` that `# ## #` makes is no operator
@@ -172,7 +172,7 @@ hashes =
     ∷ like (codes "join") (codes "c" ∷ codes "d" ∷ []) false (codes "in_between(c hash_hash d)") ∷ []
 
 a_made_paste_is_no_operator : run hashes (codes "join(x, y)") ≡ Some (codes " \"x ## y\"" ∷ [], 18)
-unfolding expand
+unfolding expand is_punctuator punctuators
 a_made_paste_is_no_operator = refl
 
 -- C11 6.10.3.5, EXAMPLE 5
@@ -180,7 +180,7 @@ abbrev example_5 : List (Text × MacroText)
 example_5 = like (codes "t") (codes "x" ∷ codes "y" ∷ codes "z" ∷ []) false (codes "x ## y ## z") ∷ []
 
 placemarkers_go : run example_5 (codes "t(1,2,3) t(,4,5) t(6,,7) t(8,9,) t(10,,) t(,,)") ≡ Some (codes " 123" ∷ codes " 45" ∷ codes " 67" ∷ codes " 89" ∷ codes " 10" ∷ [], 11)
-unfolding expand
+unfolding expand is_punctuator punctuators
 placemarkers_go = refl
 
 -- C11 6.10.3.5, EXAMPLE 7
@@ -188,11 +188,11 @@ abbrev example_7 : List (Text × MacroText)
 example_7 = like (codes "showlist") [] true (codes "puts(#__VA_ARGS__)") ∷ like (codes "report") (codes "test" ∷ []) true (codes "((test)?puts(#test): printf(__VA_ARGS__))") ∷ []
 
 a_list_is_shown : texts (expand (table example_7) (toks (codes "showlist(The first, second, and third items.);")) 100) ≡ Some (codes "puts(\"The first, second, and third items.\");")
-unfolding expand
+unfolding expand is_punctuator punctuators
 a_list_is_shown = refl
 
 a_list_is_reported : texts (expand (table example_7) (toks (codes "report(x>y, \"x is %d but y is %d\", x, y);")) 100) ≡ Some (codes "((x>y)?puts(\"x>y\"):printf(\"x is %d but y is %d\",x,y));")
-unfolding expand
+unfolding expand is_punctuator punctuators
 a_list_is_reported = refl
 
 -- roles: K is a macro's name, y is dropped, u is made a string, v and w1 are pasted
@@ -207,5 +207,5 @@ each_role_is_told :
     events_of (expand (table each_role) (toks (codes "K(y,u,v,w1)")) 100)
     ≡ Taken (codes "K") (at 0) MacroName ∷ Taken (codes "y") (at 2) Dropped ∷ Taken (codes "u") (at 4) Stringized ∷ Taken (codes "v") (at 6) Pasted
     ∷ Taken (codes "w1") (at 8) Pasted ∷ Rule ∷ Rule ∷ Rule ∷ []
-unfolding expand
+unfolding expand is_punctuator punctuators
 each_role_is_told = refl

@@ -7,7 +7,7 @@ use Rattle.cr_base.specs.declared.token.PpKind.TheVariants.{Str}
 use Rattle.cr_base.specs.declared.cause.Role.TheVariants.{MacroName, Pasted}
 use Rattle.cr_expand.specs.OneToken.{one_token, is_string}
 use Rattle.cr_expand.specs.Tokens.{Text, Token, MacroText, Event, Rule, Cause, BadPaste, Over, Answer, Gave, Stopped, Work, after, then_do, ◌>>=◌, give, fail, note, pay, takes, both}
-use Rattle.cr_expand.specs.Substitution.{Item, Stays, Spelt, Bare, Full, CommaRest, Paste, Args, Filled, Tokens, Pastes, filled, all_filled, string_of, spelling, in_quotes, made, pasted_as, paste, paste_last, all_pasted, items, body_items, is_full, with_space, dropped, placed}
+use Rattle.cr_expand.specs.Substitution.{Item, Stays, Spelt, Bare, Full, CommaRest, Paste, Args, Part, Is, Placemarker, Joins, or_none, paste_after, filled, all_filled, string_of, spelling, in_quotes, made, pasted_as, paste, all_pasted, items, body_items, is_full, with_space, dropped, placed}
 use Rattle.cr_expand.specs.Substitution
 use Rattle.cr_expand.specs.Expansion.{expanded, expanded_if}
 
@@ -51,7 +51,7 @@ lessens_string name hash arg = lessens_cond (is_string (in_quotes (spelling arg)
 
 lessens_filled : (name : Token) (raw full : Args) (item : Item) → Lessens (filled name raw full item)
 lessens_filled name raw full (Stays t) = lessens_give _
-lessens_filled name raw full (Spelt hash i) = lessens_then _ _ (lessens_string name hash (slice_index_or raw i [])) (λ s. lessens_give (Tokens (s ∷ [])))
+lessens_filled name raw full (Spelt hash i) = lessens_then _ _ (lessens_string name hash (slice_index_or raw i [])) (λ s. lessens_give (Is s ∷ []))
 lessens_filled name raw full (Bare t i) = lessens_give _
 lessens_filled name raw full (Full t i) = lessens_give _
 lessens_filled name raw full (CommaRest comma t i) = lessens_give _
@@ -59,7 +59,7 @@ lessens_filled name raw full Paste = lessens_give _
 
 lessens_all_filled : (name : Token) (raw full : Args) (its : List Item) → Lessens (all_filled name raw full its)
 lessens_all_filled name raw full [] = lessens_give _
-lessens_all_filled name raw full (item ∷ its) = lessens_then _ _ (lessens_filled name raw full item) (λ f. lessens_then _ _ (lessens_all_filled name raw full its) (λ fs. lessens_give _))
+lessens_all_filled name raw full (item ∷ its) = lessens_then _ _ (lessens_filled name raw full item) (λ f. lessens_then _ _ (lessens_all_filled name raw full its) (λ fs. lessens_give (f ++ fs)))
 
 lessens_pasted_as : (name a b : Token) (o : Option PpKind) → Lessens (pasted_as name a b o)
 lessens_pasted_as name a b None = lessens_fail _
@@ -68,23 +68,23 @@ lessens_pasted_as name a b (Some kind) = lessens_note _ _
 lessens_paste : (name a b : Token) → Lessens (paste name a b)
 lessens_paste name a b = lessens_pasted_as name a b (one_token (a.text ++ b.text))
 
-lessens_paste_last : (name : Token) (left right : List Token) → Lessens (paste_last name left right)
-lessens_paste_last name left [] = lessens_give _
-lessens_paste_last name [] (b ∷ bs) = lessens_give _
-lessens_paste_last name (a ∷ []) (b ∷ bs) = lessens_then _ _ (lessens_paste name a b) (λ c. lessens_give _)
-lessens_paste_last name (a ∷ a2 ∷ as1) (b ∷ bs) = lessens_then _ _ (lessens_paste_last name (a2 ∷ as1) (b ∷ bs)) (λ cs. lessens_give _)
+lessens_paste_after : (name b : Token) (left : Option Token) → Lessens (paste_after name b left)
+lessens_paste_after name b None = lessens_give _
+lessens_paste_after name b (Some a) = lessens_paste name a b
 
-lessens_all_pasted : (name : Token) (left : List Token) (pasting : Bool) (fs : List Filled) → Lessens (all_pasted name left pasting fs)
+lessens_all_pasted : (name : Token) (left : Option Token) (pasting : Bool) (ps : List Part) → Lessens (all_pasted name left pasting ps)
 lessens_all_pasted name left pasting [] = lessens_give _
-lessens_all_pasted name left pasting (Pastes ∷ fs) = lessens_all_pasted name left true fs
-lessens_all_pasted name left true (Tokens ts ∷ fs) = lessens_then _ _ (lessens_paste_last name left ts) (λ x. lessens_all_pasted name x false fs)
-lessens_all_pasted name left false (Tokens ts ∷ fs) = lessens_then _ _ (lessens_all_pasted name ts false fs) (λ x. lessens_give _)
+lessens_all_pasted name left pasting (Joins ∷ ps) = lessens_all_pasted name left true ps
+lessens_all_pasted name left true (Is b ∷ ps) = lessens_then _ _ (lessens_paste_after name b left) (λ c. lessens_all_pasted name (Some c) false ps)
+lessens_all_pasted name left true (Placemarker ∷ ps) = lessens_all_pasted name left false ps
+lessens_all_pasted name left false (Is b ∷ ps) = lessens_then _ _ (lessens_all_pasted name (Some b) false ps) (λ rest. lessens_give (or_none left ++ rest))
+lessens_all_pasted name left false (Placemarker ∷ ps) = lessens_then _ _ (lessens_all_pasted name None false ps) (λ rest. lessens_give (or_none left ++ rest))
 
 pub lessens_subst : (name : Token) (m : MacroText) (raw full : Args) (hide : List Text) → Lessens (Substitution.subst name m raw full hide)
 lessens_subst name m raw full hide =
     lessens_then _ _ (lessens_note (takes MacroName name ++ dropped (body_items m) 0 raw) (body_items m))
     (λ its. lessens_then _ _ (lessens_all_filled name raw full its)
-    (λ fs. lessens_then _ _ (lessens_all_pasted name [] false fs) (λ ts. lessens_give (placed name hide ts))))
+    (λ ps. lessens_then _ _ (lessens_all_pasted name None false ps) (λ ts. lessens_give (placed name hide ts))))
 
 pub lessens_pay : {A : Type 0} (n : ℕ) (a : A) → Lessens (pay n a)
 lessens_pay n a = record { leaves = λ left. go left (nat_lt left n) } where

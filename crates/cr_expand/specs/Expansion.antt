@@ -1,9 +1,11 @@
 -- Macro expansion by Prosser's hide sets: this project's own reading of C11 6.10.3.
-use Rattle.std.specs.Prelude.{ℕ, zero, suc, ◌+◌, ◌-◌, Bool, true, false, not, ◌&&◌, ◌||◌, ◌==◌, nat_le, if◌then◌else◌, List, [], ◌∷◌, ◌++◌, length, bytes_eq, codes, Option, Some, None, decimal}
+use Rattle.std.specs.Prelude.{ℕ, zero, suc, ◌+◌, ◌-◌, Bool, true, false, not, ◌&&◌, ◌||◌, ◌==◌, nat_le, if◌then◌else◌, List, [], ◌∷◌, ◌++◌, length, bytes_eq, codes, Option, Some, None, option_map, decimal}
 use Rattle.std.specs.List.{list_any}
 use Rattle.cr_base.specs.declared.token.PpKind.{PpKind}
 use Rattle.cr_base.specs.declared.token.PpKind.TheVariants.{Number, Str}
 use Rattle.cr_base.specs.declared.cause.Role.TheVariants.{MacroName}
+use Rattle.cr_expand.specs.declared.words.Predefined.{Predefined as PredefinedMacro}
+use Rattle.cr_expand.specs.declared.words.Predefined.TheVariants.{File, Line, Date, Time, Standard, Version, Hosted}
 use Rattle.cr_expand.specs.Tokens.{Text, Token, MacroText, Rule, is_ident, is_mark, has, both, with_name, takes, Cause, ArgCount, OpenCall, Over, Work, ◌>>=◌, give, fail, note, pay}
 use Rattle.cr_expand.specs.Substitution.{Item, Args, body_items, is_full, made, subst}
 
@@ -12,17 +14,31 @@ pub record Table : Type 0 where
   pub macro : Text → Option MacroText
   pub file : Text
 
--- What a predefined macro gives, by name (C11 6.10.8.1). Its date and time are an own rule of this project.
-abbrev pub predefined : Text → ℕ → Text → Option (PpKind × Text)
-predefined file line name =
-    if bytes_eq name (codes "__FILE__") then Some (Str, file)
-    else if bytes_eq name (codes "__LINE__") then Some (Number, decimal line)
-    else if bytes_eq name (codes "__DATE__") then Some (Str, codes "\"Jan  1 1970\"")
-    else if bytes_eq name (codes "__TIME__") then Some (Str, codes "\"00:00:00\"")
-    else if bytes_eq name (codes "__STDC__") then Some (Number, codes "1")
-    else if bytes_eq name (codes "__STDC_VERSION__") then Some (Number, codes "201112L")
-    else if bytes_eq name (codes "__STDC_HOSTED__") then Some (Number, codes "1")
+-- the predefined macro of a name (C11 6.10.8.1)
+abbrev pub predefined_named : Text → Option PredefinedMacro
+predefined_named name =
+    if bytes_eq name (codes "__FILE__") then Some File
+    else if bytes_eq name (codes "__LINE__") then Some Line
+    else if bytes_eq name (codes "__DATE__") then Some Date
+    else if bytes_eq name (codes "__TIME__") then Some Time
+    else if bytes_eq name (codes "__STDC__") then Some Standard
+    else if bytes_eq name (codes "__STDC_VERSION__") then Some Version
+    else if bytes_eq name (codes "__STDC_HOSTED__") then Some Hosted
     else None
+
+-- the one token that it gives; the date and the time are own rules of this project
+abbrev pub predefined_token : Text → ℕ → PredefinedMacro → PpKind × Text
+predefined_token file line File = (Str, file)
+predefined_token file line Line = (Number, decimal line)
+predefined_token file line Date = (Str, codes "\"Jan  1 1970\"")
+predefined_token file line Time = (Str, codes "\"00:00:00\"")
+predefined_token file line Standard = (Number, codes "1")
+predefined_token file line Version = (Number, codes "201112L")
+predefined_token file line Hosted = (Number, codes "1")
+
+-- what a predefined macro of this name gives, in this file and on this line
+abbrev pub predefined : Text → ℕ → Text → Option (PpKind × Text)
+predefined file line name = option_map (predefined_token file line) (predefined_named name)
 
 -- t, and then what was found
 abbrev pub found_after : Token → Option (List Token × Token × List Token) → Option (List Token × Token × List Token)

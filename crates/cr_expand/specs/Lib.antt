@@ -2,4 +2,10 @@ pub mod OneToken
 pub mod Tokens
 pub mod Substitution
 pub mod Expansion
+pub mod Definition
+pub mod MacroTables
+pub mod HideSets
+pub mod Held
+pub mod Items
+pub mod Parts
 pub mod Laws

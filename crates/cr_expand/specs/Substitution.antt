@@ -159,34 +159,43 @@ abbrev pub with_space : Bool → List Token → List Token
 with_space space [] = []
 with_space space (t ∷ ts) = record t { space = space } ∷ ts
 
--- the tokens of an item, none of them for a placemarker, or `##`
-pub data Filled : Type 0 where
-  Tokens : List Token → Filled
-  Pastes : Filled
+-- what stands in the body once its items are replaced: a token, a placemarker, or `##` (C11 6.10.3.3)
+pub data Part : Type 0 where
+  Is : Token → Part
+  Placemarker : Part
+  Joins : Part
 
 abbrev pub Args : Type 0
 Args = List (List Token)
+
+abbrev pub arg_at : Args → ℕ → List Token
+arg_at args i = slice_index_or args i []
+
+abbrev pub parts_of : List Token → List Part
+parts_of = map {A = Token} (λ t. Is t)
+
+-- the tokens, or a placemarker where there are none
+abbrev pub or_placemarker : List Token → List Part
+or_placemarker [] = Placemarker ∷ []
+or_placemarker (t ∷ ts) = Is t ∷ parts_of ts
 
 -- the comma goes where the variable argument is empty
 abbrev pub comma_and : Token → List Token → List Token → List Token
 comma_and comma full [] = []
 comma_and comma full (a ∷ as1) = comma ∷ full
 
-abbrev pub arg_at : Args → ℕ → List Token
-arg_at args i = slice_index_or args i []
-
 -- an item with its argument as it is, or as it is expanded
-abbrev pub filled : Token → Args → Args → Item → Work Filled
-filled name raw full (Stays t) = give (Tokens (t ∷ []))
-filled name raw full (Spelt hash i) = string_of name hash (arg_at raw i) >>= λ s. give (Tokens (s ∷ []))
-filled name raw full (Bare t i) = give (Tokens (with_space t.space (arg_at raw i)))
-filled name raw full (Full t i) = give (Tokens (with_space t.space (arg_at full i)))
-filled name raw full (CommaRest comma t i) = give (Tokens (comma_and comma (with_space t.space (arg_at full i)) (arg_at raw i)))
-filled name raw full Paste = give Pastes
+abbrev pub filled : Token → Args → Args → Item → Work (List Part)
+filled name raw full (Stays t) = give (Is t ∷ [])
+filled name raw full (Spelt hash i) = string_of name hash (arg_at raw i) >>= λ s. give (Is s ∷ [])
+filled name raw full (Bare t i) = give (or_placemarker (with_space t.space (arg_at raw i)))
+filled name raw full (Full t i) = give (parts_of (with_space t.space (arg_at full i)))
+filled name raw full (CommaRest comma t i) = give (or_placemarker (comma_and comma (with_space t.space (arg_at full i)) (arg_at raw i)))
+filled name raw full Paste = give (Joins ∷ [])
 
-abbrev pub all_filled : Token → Args → Args → List Item → Work (List Filled)
+abbrev pub all_filled : Token → Args → Args → List Item → Work (List Part)
 all_filled name raw full [] = give []
-all_filled name raw full (item ∷ items1) = filled name raw full item >>= λ f. all_filled name raw full items1 >>= λ fs. give (f ∷ fs)
+all_filled name raw full (item ∷ items1) = filled name raw full item >>= λ ps. all_filled name raw full items1 >>= λ more. give (ps ++ more)
 
 abbrev pub pasted_as : Token → Token → Token → Option PpKind → Work Token
 pasted_as name a b None = fail (BadPaste name.site)
@@ -196,19 +205,24 @@ pasted_as name a b (Some kind) = note (takes Pasted a ++ takes Pasted b) (made n
 abbrev pub paste : Token → Token → Token → Work Token
 paste name a b = pasted_as name a b (one_token (a.text ++ b.text))
 
--- the last of the left ones pasted with the first of the right ones; a placemarker with X is X
-abbrev pub paste_last : Token → List Token → List Token → Work (List Token)
-paste_last name left [] = give left
-paste_last name [] right = give right
-paste_last name (a ∷ []) (b ∷ bs) = paste name a b >>= λ c. give (c ∷ bs)
-paste_last name (a ∷ b ∷ as1) right = paste_last name (b ∷ as1) right >>= λ cs. give (a ∷ cs)
+abbrev pub or_none : Option Token → List Token
+or_none None = []
+or_none (Some t) = t ∷ []
 
--- each `##` from left to right; left is the item before, and pasting says that `##` is directly before
-abbrev pub all_pasted : Token → List Token → Bool → List Filled → Work (List Token)
-all_pasted name left pasting [] = give left
-all_pasted name left pasting (Pastes ∷ fs) = all_pasted name left true fs
-all_pasted name left true (Tokens ts ∷ fs) = paste_last name left ts >>= λ both1. all_pasted name both1 false fs
-all_pasted name left false (Tokens ts ∷ fs) = all_pasted name ts false fs >>= λ rest. give (left ++ rest)
+-- what is on the left pasted with a token; a placemarker with a token is the token
+abbrev pub paste_after : Token → Token → Option Token → Work Token
+paste_after name b None = give b
+paste_after name b (Some a) = paste name a b
+
+-- Each `##` from left to right: left is the token directly before, if it is no placemarker, and pasting says that `##` is
+-- between.
+abbrev pub all_pasted : Token → Option Token → Bool → List Part → Work (List Token)
+all_pasted name left pasting [] = give (or_none left)
+all_pasted name left pasting (Joins ∷ ps) = all_pasted name left true ps
+all_pasted name left true (Is b ∷ ps) = paste_after name b left >>= λ c. all_pasted name (Some c) false ps
+all_pasted name left true (Placemarker ∷ ps) = all_pasted name left false ps
+all_pasted name left false (Is b ∷ ps) = all_pasted name (Some b) false ps >>= λ rest. give (or_none left ++ rest)
+all_pasted name left false (Placemarker ∷ ps) = all_pasted name None false ps >>= λ rest. give (or_none left ++ rest)
 
 -- the tokens take the site of the macro's name, and more names are hidden
 abbrev pub placed : Token → List Text → List Token → List Token
@@ -225,5 +239,5 @@ abbrev pub subst : Token → MacroText → Args → Args → List Text → Work 
 subst name m raw full hide =
     note (takes MacroName name ++ dropped (body_items m) 0 raw) (body_items m)
     >>= λ its. all_filled name raw full its
-    >>= λ fs. all_pasted name [] false fs
+    >>= λ ps. all_pasted name None false ps
     >>= λ ts. give (placed name hide ts)

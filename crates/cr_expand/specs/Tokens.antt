@@ -68,7 +68,7 @@ with_names names (b ∷ bs) = with_name b (with_names names bs)
 -- the names that are in both
 abbrev pub both : List Text → List Text → List Text
 both [] bs = []
-both (a ∷ as1) bs = if has bs a then a ∷ both as1 bs else both as1 bs
+both (a ∷ as1) bs = if has bs a then with_name a (both as1 bs) else both as1 bs
 
 -- What expansion tells beside its output: that one of the rules was used, and for what an identifier
 -- with this text and place was taken.

@@ -3,7 +3,24 @@
 
 ghost use Rattle.cr_expand.specs.Laws.{FollowsTheRules};
 
+mod definition;
+mod fault;
+mod held;
+mod hide_sets;
+mod items;
+mod macro_table;
+mod macros;
+mod notes;
+mod one_token;
+mod params;
+mod parts;
+mod spelling;
+mod words;
+
 pub use cr_base::Role;
+pub use fault::ExpandFault;
+pub use macro_table::MacroTable;
+pub use macros::{Macro, Seen};
 
 /// The law that macro expansion is what its rules say of itself, however deep they are used. It does no work.
 pub fn expansion_follows_the_rules()

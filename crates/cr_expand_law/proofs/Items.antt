@@ -1,6 +1,6 @@
 -- What is put in for a macro's name, renamed.
 use Rattle.std.proofs.Common.{◌≡◌, ℕ, zero, suc, ◌+◌, Bool, true, false, cond, List, [], ◌∷◌, ◌++◌, map, refl, ap, sym, ◌∙◌, Some, None, Option}
-use Rattle.std.specs.Prelude.{is_some, flat_map, codes, ◌&&◌, ◌||◌, bytes_eq}
+use Rattle.std.specs.Prelude.{is_some, option_map, flat_map, codes, ◌&&◌, ◌||◌, bytes_eq}
 use Rattle.std.specs.List.{list_any, AllByRecursion}
 use Rattle.std.proofs.lemmas.List.{map-append}
 use Rattle.cr_base.specs.declared.token.PpKind.{PpKind}
@@ -8,7 +8,7 @@ use Rattle.cr_base.specs.declared.token.PpKind.TheVariants.{Str}
 use Rattle.cr_base.specs.declared.cause.Role.TheVariants.{MacroName, Stringized, Pasted, Dropped}
 use Rattle.cr_expand.specs.OneToken.{one_token, is_string}
 use Rattle.cr_expand.specs.Tokens.{Text, Token, MacroText, BadPaste, Work, ◌>>=◌, give, fail, note, takes, both, is_mark, with_names}
-use Rattle.cr_expand.specs.Substitution.{Item, Stays, Spelt, Bare, Full, CommaRest, Paste, item_by, item_at, items, body_items, only_if, next_is, next_param, with_token, pasted_rest, param, is_hash, is_paste, Args, arg_at, comma_and, Filled, Tokens, Pastes, filled, all_filled, string_of, in_quotes, spelling, made, paste, pasted_as, paste_last, all_pasted, is_full, is_use, with_space, dropped, placed}
+use Rattle.cr_expand.specs.Substitution.{Item, Stays, Spelt, Bare, Full, CommaRest, Paste, item_by, item_at, items, body_items, only_if, next_is, next_param, with_token, pasted_rest, param, is_hash, is_paste, Args, arg_at, comma_and, Part, Is, Placemarker, Joins, parts_of, or_placemarker, or_none, paste_after, filled, all_filled, string_of, in_quotes, spelling, made, paste, pasted_as, all_pasted, is_full, is_use, with_space, dropped, placed}
 use Rattle.cr_expand.specs.Substitution
 use Rattle.cr_expand_law.specs.Renaming.{Renaming, is_renamed, renamed, all_renamed, renamed_macro, renamed_event, IsNoParameter}
 use Rattle.cr_expand_law.proofs.Following.{renamed_events, Follows, Sim, harmless_left, harmless_right, sim_then, sim_give, sim_to, sim_note, Never, never_first}
@@ -130,9 +130,13 @@ arg_renamed r [] i = refl
 arg_renamed r (a ∷ args) zero = refl
 arg_renamed r (a ∷ args) (suc i) = arg_renamed r args i
 
-abbrev renamed_filled : Renaming → Filled → Filled
-renamed_filled r (Tokens ts) = Tokens (all_renamed r ts)
-renamed_filled r Pastes = Pastes
+abbrev renamed_part : Renaming → Part → Part
+renamed_part r (Is t) = Is (renamed r t)
+renamed_part r Placemarker = Placemarker
+renamed_part r Joins = Joins
+
+abbrev renamed_parts : Renaming → List Part → List Part
+renamed_parts r = map (renamed_part r)
 
 string_sim : (r : Renaming) (name hash : Token) (arg : List Token) → Sim r (renamed r) (string_of name hash arg) (string_of name (renamed r hash) (all_renamed r arg))
 string_sim r name hash arg = record { at = λ left. go left (is_string (in_quotes (spelling arg))) refl } where
@@ -149,32 +153,44 @@ comma_renamed : (r : Renaming) (comma : Token) (full arg : List Token) → comma
 comma_renamed r comma full [] = refl
 comma_renamed r comma full (a ∷ as1) = refl
 
-sim_tokens : (r : Renaming) (ts us : List Token) → us ≡ all_renamed r ts → Sim r (renamed_filled r) (give (Tokens ts)) (give (Tokens us))
-sim_tokens r ts us e = record { at = λ left fine. ap (λ x. give (Tokens x) left) e }
+parts_renamed : (r : Renaming) (ts : List Token) → parts_of (all_renamed r ts) ≡ renamed_parts r (parts_of ts)
+parts_renamed r [] = refl
+parts_renamed r (t ∷ ts) = ap (λ ps. Is (renamed r t) ∷ ps) (parts_renamed r ts)
 
-filled_sim : (r : Renaming) (name : Token) (raw full : Args) (item : Item) → Sim r (renamed_filled r) (filled name raw full item) (filled name (renamed_args r raw) (renamed_args r full) (renamed_item r item))
-filled_sim r name raw full (Stays t) = sim_tokens r (t ∷ []) (renamed r t ∷ []) refl
+placemarker_renamed : (r : Renaming) (ts : List Token) → or_placemarker (all_renamed r ts) ≡ renamed_parts r (or_placemarker ts)
+placemarker_renamed r [] = refl
+placemarker_renamed r (t ∷ ts) = ap (λ ps. Is (renamed r t) ∷ ps) (parts_renamed r ts)
+
+sim_parts : (r : Renaming) (ps qs : List Part) → qs ≡ renamed_parts r ps → Sim r (renamed_parts r) (give ps) (give qs)
+sim_parts r ps qs e = record { at = λ left fine. ap (λ x. give x left) e }
+
+filled_sim : (r : Renaming) (name : Token) (raw full : Args) (item : Item) → Sim r (renamed_parts r) (filled name raw full item) (filled name (renamed_args r raw) (renamed_args r full) (renamed_item r item))
+filled_sim r name raw full (Stays t) = sim_parts r (Is t ∷ []) (Is (renamed r t) ∷ []) refl
 filled_sim r name raw full (Spelt hash i) =
-    sim_to r (renamed_filled r) (filled name raw full (Spelt hash i)) (filled name (renamed_args r raw) (renamed_args r full) (Spelt (renamed r hash) i))
-    (string_of name (renamed r hash) (all_renamed r (arg_at raw i)) >>= λ s. give (Tokens (s ∷ [])))
-    (ap (λ x. string_of name (renamed r hash) x >>= λ s. give (Tokens (s ∷ []))) (arg_renamed r raw i))
-    (sim_then r (renamed r) (renamed_filled r) (string_of name hash (arg_at raw i)) (string_of name (renamed r hash) (all_renamed r (arg_at raw i)))
-    (λ s. give (Tokens (s ∷ []))) (λ s. give (Tokens (s ∷ []))) (string_sim r name hash (arg_at raw i)) (λ s. sim_tokens r (s ∷ []) (renamed r s ∷ []) refl))
-filled_sim r name raw full (Bare t i) = sim_tokens r _ _ (ap (with_space t.space) (arg_renamed r raw i) ∙ space_renamed r t.space (arg_at raw i))
-filled_sim r name raw full (Full t i) = sim_tokens r _ _ (ap (with_space t.space) (arg_renamed r full i) ∙ space_renamed r t.space (arg_at full i))
-filled_sim r name raw full (CommaRest comma t i) = sim_tokens r (comma_and comma (with_space t.space (arg_at full i)) (arg_at raw i)) (comma_and (renamed r comma) (with_space t.space (arg_at (renamed_args r full) i)) (arg_at (renamed_args r raw) i))
-    (ap (comma_and (renamed r comma) (with_space t.space (arg_at (renamed_args r full) i))) (arg_renamed r raw i)
+    sim_to r (renamed_parts r) (filled name raw full (Spelt hash i)) (filled name (renamed_args r raw) (renamed_args r full) (Spelt (renamed r hash) i))
+    (string_of name (renamed r hash) (all_renamed r (arg_at raw i)) >>= λ s. give (Is s ∷ []))
+    (ap (λ x. string_of name (renamed r hash) x >>= λ s. give (Is s ∷ [])) (arg_renamed r raw i))
+    (sim_then r (renamed r) (renamed_parts r) (string_of name hash (arg_at raw i)) (string_of name (renamed r hash) (all_renamed r (arg_at raw i)))
+    (λ s. give (Is s ∷ [])) (λ s. give (Is s ∷ [])) (string_sim r name hash (arg_at raw i)) (λ s. sim_parts r (Is s ∷ []) (Is (renamed r s) ∷ []) refl))
+filled_sim r name raw full (Bare t i) =
+    sim_parts r _ _ (ap or_placemarker (ap (with_space t.space) (arg_renamed r raw i) ∙ space_renamed r t.space (arg_at raw i)) ∙ placemarker_renamed r (with_space t.space (arg_at raw i)))
+filled_sim r name raw full (Full t i) =
+    sim_parts r _ _ (ap parts_of (ap (with_space t.space) (arg_renamed r full i) ∙ space_renamed r t.space (arg_at full i)) ∙ parts_renamed r (with_space t.space (arg_at full i)))
+filled_sim r name raw full (CommaRest comma t i) =
+    sim_parts r (or_placemarker (comma_and comma (with_space t.space (arg_at full i)) (arg_at raw i))) (or_placemarker (comma_and (renamed r comma) (with_space t.space (arg_at (renamed_args r full) i)) (arg_at (renamed_args r raw) i)))
+    (ap or_placemarker (ap (comma_and (renamed r comma) (with_space t.space (arg_at (renamed_args r full) i))) (arg_renamed r raw i)
     ∙ ap (λ x. comma_and (renamed r comma) x (all_renamed r (arg_at raw i))) (ap (with_space t.space) (arg_renamed r full i) ∙ space_renamed r t.space (arg_at full i))
     ∙ comma_renamed r comma (with_space t.space (arg_at full i)) (arg_at raw i))
-filled_sim r name raw full Paste = sim_give r (renamed_filled r) Pastes
+    ∙ placemarker_renamed r (comma_and comma (with_space t.space (arg_at full i)) (arg_at raw i)))
+filled_sim r name raw full Paste = sim_give r (renamed_parts r) (Joins ∷ [])
 
-all_filled_sim : (r : Renaming) (name : Token) (raw full : Args) (its : List Item) → Sim r (map (renamed_filled r)) (all_filled name raw full its) (all_filled name (renamed_args r raw) (renamed_args r full) (map (renamed_item r) its))
-all_filled_sim r name raw full [] = sim_give r (map (renamed_filled r)) []
+all_filled_sim : (r : Renaming) (name : Token) (raw full : Args) (its : List Item) → Sim r (renamed_parts r) (all_filled name raw full its) (all_filled name (renamed_args r raw) (renamed_args r full) (map (renamed_item r) its))
+all_filled_sim r name raw full [] = sim_give r (renamed_parts r) []
 all_filled_sim r name raw full (item ∷ its) =
-    sim_then r (renamed_filled r) (map (renamed_filled r)) (filled name raw full item) (filled name (renamed_args r raw) (renamed_args r full) (renamed_item r item))
-    (λ f. all_filled name raw full its >>= λ fs. give (f ∷ fs)) (λ f. all_filled name (renamed_args r raw) (renamed_args r full) (map (renamed_item r) its) >>= λ fs. give (f ∷ fs)) (filled_sim r name raw full item)
-    (λ f. sim_then r (map (renamed_filled r)) (map (renamed_filled r)) (all_filled name raw full its) (all_filled name (renamed_args r raw) (renamed_args r full) (map (renamed_item r) its))
-    (λ fs. give (f ∷ fs)) (λ fs. give (renamed_filled r f ∷ fs)) (all_filled_sim r name raw full its) (λ fs. sim_give r (map (renamed_filled r)) (f ∷ fs)))
+    sim_then r (renamed_parts r) (renamed_parts r) (filled name raw full item) (filled name (renamed_args r raw) (renamed_args r full) (renamed_item r item))
+    (λ ps. all_filled name raw full its >>= λ more. give (ps ++ more)) (λ ps. all_filled name (renamed_args r raw) (renamed_args r full) (map (renamed_item r) its) >>= λ more. give (ps ++ more)) (filled_sim r name raw full item)
+    (λ ps. sim_then r (renamed_parts r) (renamed_parts r) (all_filled name raw full its) (all_filled name (renamed_args r raw) (renamed_args r full) (map (renamed_item r) its))
+    (λ more. give (ps ++ more)) (λ more. give (renamed_parts r ps ++ more)) (all_filled_sim r name raw full its) (λ more. sim_parts r (ps ++ more) (renamed_parts r ps ++ renamed_parts r more) (sym (map-append (renamed_part r) ps more))))
 
 paste_sim : (r : Renaming) (name a b : Token) → Sim r (renamed r) (paste name a b) (paste name (renamed r a) (renamed r b))
 paste_sim r name a b = record { at = λ left. go left (one_token (a.text ++ b.text)) refl } where
@@ -190,26 +206,30 @@ paste_sim r name a b = record { at = λ left. go left (one_token (a.text ++ b.te
       (ap (λ x. x ++ takes Pasted b) (same_takes r Pasted a same_a) ∙ ap (λ x. renamed_events r (takes Pasted a) ++ x) (same_takes r Pasted b same_b)
       ∙ sym (map-append (renamed_event r) (takes Pasted a) (takes Pasted b)))
 
-paste_last_sim : (r : Renaming) (name : Token) (left right : List Token) → Sim r (all_renamed r) (paste_last name left right) (paste_last name (all_renamed r left) (all_renamed r right))
-paste_last_sim r name left [] = sim_give r (all_renamed r) left
-paste_last_sim r name [] (b ∷ bs) = sim_give r (all_renamed r) (b ∷ bs)
-paste_last_sim r name (a ∷ []) (b ∷ bs) =
-    sim_then r (renamed r) (all_renamed r) (paste name a b) (paste name (renamed r a) (renamed r b)) (λ x. give (x ∷ bs)) (λ x. give (x ∷ all_renamed r bs)) (paste_sim r name a b) (λ x. sim_give r (all_renamed r) (x ∷ bs))
-paste_last_sim r name (a ∷ a2 ∷ as1) (b ∷ bs) =
-    sim_then r (all_renamed r) (all_renamed r) (paste_last name (a2 ∷ as1) (b ∷ bs)) (paste_last name (all_renamed r (a2 ∷ as1)) (all_renamed r (b ∷ bs))) (λ x. give (a ∷ x)) (λ x. give (renamed r a ∷ x)) (paste_last_sim r name (a2 ∷ as1) (b ∷ bs)) (λ x. sim_give r (all_renamed r) (a ∷ x))
+paste_after_sim : (r : Renaming) (name b : Token) (left : Option Token) → Sim r (renamed r) (paste_after name b left) (paste_after name (renamed r b) (option_map (renamed r) left))
+paste_after_sim r name b None = sim_give r (renamed r) b
+paste_after_sim r name b (Some a) = paste_sim r name a b
 
-sim_append : (r : Renaming) (left x : List Token) → Sim r (all_renamed r) (give (left ++ x)) (give (all_renamed r left ++ all_renamed r x))
-sim_append r left x = record { at = λ n fine. ap (λ y. give y n) (sym (map-append (renamed r) left x)) }
+none_renamed : (r : Renaming) (left : Option Token) → or_none (option_map (renamed r) left) ≡ all_renamed r (or_none left)
+none_renamed r None = refl
+none_renamed r (Some t) = refl
 
-all_pasted_sim : (r : Renaming) (name : Token) (left : List Token) (pasting : Bool) (fs : List Filled) → Sim r (all_renamed r) (all_pasted name left pasting fs) (all_pasted name (all_renamed r left) pasting (map (renamed_filled r) fs))
-all_pasted_sim r name left pasting [] = sim_give r (all_renamed r) left
-all_pasted_sim r name left pasting (Pastes ∷ fs) = all_pasted_sim r name left true fs
-all_pasted_sim r name left true (Tokens ts ∷ fs) =
-    sim_then r (all_renamed r) (all_renamed r) (paste_last name left ts) (paste_last name (all_renamed r left) (all_renamed r ts)) (λ x. all_pasted name x false fs) (λ x. all_pasted name x false (map (renamed_filled r) fs))
-    (paste_last_sim r name left ts) (λ x. all_pasted_sim r name x false fs)
-all_pasted_sim r name left false (Tokens ts ∷ fs) =
-    sim_then r (all_renamed r) (all_renamed r) (all_pasted name ts false fs) (all_pasted name (all_renamed r ts) false (map (renamed_filled r) fs)) (λ x. give (left ++ x)) (λ x. give (all_renamed r left ++ x))
-    (all_pasted_sim r name ts false fs) (λ x. sim_append r left x)
+sim_before : (r : Renaming) (left : Option Token) (x : List Token) → Sim r (all_renamed r) (give (or_none left ++ x)) (give (or_none (option_map (renamed r) left) ++ all_renamed r x))
+sim_before r left x = record { at = λ n fine. ap (λ y. give y n) (ap (λ y. y ++ all_renamed r x) (none_renamed r left) ∙ sym (map-append (renamed r) (or_none left) x)) }
+
+all_pasted_sim : (r : Renaming) (name : Token) (left : Option Token) (pasting : Bool) (ps : List Part) → Sim r (all_renamed r) (all_pasted name left pasting ps) (all_pasted name (option_map (renamed r) left) pasting (renamed_parts r ps))
+all_pasted_sim r name left pasting [] = record { at = λ n fine. ap (λ y. give y n) (none_renamed r left) }
+all_pasted_sim r name left pasting (Joins ∷ ps) = all_pasted_sim r name left true ps
+all_pasted_sim r name left true (Is b ∷ ps) =
+    sim_then r (renamed r) (all_renamed r) (paste_after name b left) (paste_after name (renamed r b) (option_map (renamed r) left)) (λ c. all_pasted name (Some c) false ps) (λ c. all_pasted name (Some c) false (renamed_parts r ps))
+    (paste_after_sim r name b left) (λ c. all_pasted_sim r name (Some c) false ps)
+all_pasted_sim r name left true (Placemarker ∷ ps) = all_pasted_sim r name left false ps
+all_pasted_sim r name left false (Is b ∷ ps) =
+    sim_then r (all_renamed r) (all_renamed r) (all_pasted name (Some b) false ps) (all_pasted name (Some (renamed r b)) false (renamed_parts r ps)) (λ x. give (or_none left ++ x)) (λ x. give (or_none (option_map (renamed r) left) ++ x))
+    (all_pasted_sim r name (Some b) false ps) (λ x. sim_before r left x)
+all_pasted_sim r name left false (Placemarker ∷ ps) =
+    sim_then r (all_renamed r) (all_renamed r) (all_pasted name None false ps) (all_pasted name None false (renamed_parts r ps)) (λ x. give (or_none left ++ x)) (λ x. give (or_none (option_map (renamed r) left) ++ x))
+    (all_pasted_sim r name None false ps) (λ x. sim_before r left x)
 
 dropped_by : (r : Renaming) (b : Bool) (arg : List Token) → cond b [] (flat_map (takes Dropped) (all_renamed r arg)) ≡ renamed_events r (cond b [] (flat_map (takes Dropped) arg))
 dropped_by r true arg = refl
@@ -233,7 +253,7 @@ sim_placed : (r : Renaming) (name : Token) (hide : List Text) (ts : List Token) 
 sim_placed r name hide ts = record { at = λ left fine. ap (λ x. give x left) (placed_renamed r name hide ts) }
 
 abbrev fill_in : Token → Args → Args → List Text → List Item → Work (List Token)
-fill_in name raw full hide its = all_filled name raw full its >>= λ fs. all_pasted name [] false fs >>= λ ts. give (placed name hide ts)
+fill_in name raw full hide its = all_filled name raw full its >>= λ ps. all_pasted name None false ps >>= λ ts. give (placed name hide ts)
 
 pub subst_sim : (r : Renaming) (name : Token) (m : MacroText) (raw full : Args) (hide : List Text) → renamed r name ≡ name → AllByRecursion (IsNoParameter r m) m.body → Sim r (all_renamed r) (Substitution.subst name m raw full hide) (Substitution.subst name (renamed_macro r m) (renamed_args r raw) (renamed_args r full) hide)
 subst_sim r name m raw full hide s h =
@@ -246,10 +266,10 @@ subst_sim r name m raw full hide s h =
     (ap (λ x. x ++ dropped (map (renamed_item r) (body_items m)) 0 (renamed_args r raw)) (same_takes r MacroName name s)
     ∙ ap (λ x. renamed_events r (takes MacroName name) ++ x) (dropped_renamed r (body_items m) 0 raw)
     ∙ sym (map-append (renamed_event r) (takes MacroName name) (dropped (body_items m) 0 raw))))
-    (λ x. sim_then r (map (renamed_filled r)) (all_renamed r) (all_filled name raw full x) (all_filled name (renamed_args r raw) (renamed_args r full) (map (renamed_item r) x))
-    (λ fs. all_pasted name [] false fs >>= λ ts. give (placed name hide ts)) (λ fs. all_pasted name [] false fs >>= λ ts. give (placed name hide ts)) (all_filled_sim r name raw full x)
-    (λ fs. sim_then r (all_renamed r) (all_renamed r) (all_pasted name [] false fs) (all_pasted name [] false (map (renamed_filled r) fs)) (λ ts. give (placed name hide ts)) (λ ts. give (placed name hide ts))
-    (all_pasted_sim r name [] false fs) (λ ts. sim_placed r name hide ts))))
+    (λ x. sim_then r (renamed_parts r) (all_renamed r) (all_filled name raw full x) (all_filled name (renamed_args r raw) (renamed_args r full) (map (renamed_item r) x))
+    (λ ps. all_pasted name None false ps >>= λ ts. give (placed name hide ts)) (λ ps. all_pasted name None false ps >>= λ ts. give (placed name hide ts)) (all_filled_sim r name raw full x)
+    (λ ps. sim_then r (all_renamed r) (all_renamed r) (all_pasted name None false ps) (all_pasted name None false (renamed_parts r ps)) (λ ts. give (placed name hide ts)) (λ ts. give (placed name hide ts))
+    (all_pasted_sim r name None false ps) (λ ts. sim_placed r name hide ts))))
 
 -- a macro's name that is renamed does harm
 pub never_subst : (r : Renaming) (t : Token) (m : MacroText) (raw full : Args) (hide : List Text) → is_renamed r t ≡ true → Never r (Substitution.subst t m raw full hide)

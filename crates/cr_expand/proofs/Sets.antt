@@ -1,0 +1,108 @@
+-- The sets that nodes make.
+use Rattle.std.proofs.Common.{◌≡◌, ℕ, zero, suc, ◌+◌, ◌-◌, ◌<◌, ◌≤◌, List, [], ◌∷◌, ◌++◌, length, get_or, refl, sym, ap, ◌∙◌, subst, arith, length-append, append_assoc, append-nil}
+use Rattle.std.specs.Prelude.{fold, slice_get, Some, Bool, true, false, if◌then◌else◌}
+use Rattle.std.proofs.lemmas.List.{get_or_append_left, get_or_push}
+use Rattle.std.proofs.lemmas.Option.{get_or_from_slice_get}
+use Rattle.cr_base.specs.declared.token.Name.{Name}
+use Rattle.cr_expand.specs.declared.hide_sets.Node.{Node}
+use Rattle.cr_expand.specs.HideSets.{Sets, set_at, grown, sets_of, AreEarlierFrom, AreEarlier, Grows, Puts, with_number}
+use Rattle.cr_expand.specs.Definition.{has_name}
+
+pub earlier_push : (n : ℕ) (xs : List Node) (y : Node) → AreEarlierFrom n xs → y.parent.0 < n + length xs → AreEarlierFrom n (xs ++ y ∷ [])
+earlier_push n [] y h k = (omega arith, tt)
+earlier_push n (x ∷ xs) y h k = (h.0, earlier_push (suc n) xs y h.1 (omega arith))
+
+pub earlier_at : (n : ℕ) (xs : List Node) (i : ℕ) (d : Node) → AreEarlierFrom n xs → i < length xs → (get_or xs i d).parent.0 < n + i
+earlier_at n [] i d h k = absurd (omega arith)
+earlier_at n (x ∷ xs) zero d h k = omega (arith, h.0)
+earlier_at n (x ∷ xs) (suc i) d h k = let e = earlier_at (suc n) xs i d h.1 (omega arith) in omega (arith, e)
+
+pub length_grown : (sets : Sets) (nodes : List Node) → length (fold grown sets nodes) ≡ length sets + length nodes
+length_grown sets [] = omega arith
+length_grown sets (x ∷ xs) = let e = length_grown (grown sets x) xs in let f = length-append sets ((x.name ∷ set_at sets x.parent.0) ∷ []) in omega (arith, e, f)
+
+pub fold_grows : (sets : Sets) (nodes : List Node) → Grows sets (fold grown sets nodes)
+fold_grows sets [] = ([], sym (append-nil sets))
+fold_grows sets (x ∷ xs) =
+    let e = fold_grows (grown sets x) xs in
+    ((x.name ∷ set_at sets x.parent.0) ∷ e.0, e.1 ∙ append_assoc sets ((x.name ∷ set_at sets x.parent.0) ∷ []) e.0)
+
+pub set_kept : (old new : Sets) (i : ℕ) → Grows old new → i < length old → set_at new i ≡ set_at old i
+set_kept old new i g h = ap (λ s. get_or s i []) g.1 ∙ get_or_append_left old g.0 [] i h
+
+pub set_grown : (sets : Sets) (nodes : List Node) (i : ℕ) (d : Node) → AreEarlierFrom (length sets) nodes → i < length nodes → set_at (fold grown sets nodes) (length sets + i) ≡ (get_or nodes i d).name ∷ set_at (fold grown sets nodes) (get_or nodes i d).parent.0
+set_grown sets [] i d h k = absurd (omega arith)
+set_grown sets (x ∷ xs) zero d h k =
+    let g = fold_grows (grown sets x) xs in
+    let long : length (grown sets x) ≡ length sets + 1 = length-append sets ((x.name ∷ set_at sets x.parent.0) ∷ []) in
+    let here : length sets + 0 ≡ length sets = omega arith in
+    ap (set_at (fold grown sets (x ∷ xs))) here
+    ∙ set_kept (grown sets x) (fold grown (grown sets x) xs) (length sets) g (omega (arith, long))
+    ∙ get_or_push sets (x.name ∷ set_at sets x.parent.0) [] (length sets) refl
+    ∙ ap (λ s. x.name ∷ s) (sym (set_kept (grown sets x) (fold grown (grown sets x) xs) x.parent.0 g (omega (arith, long, h.0)) ∙ get_or_append_left sets ((x.name ∷ set_at sets x.parent.0) ∷ []) [] x.parent.0 h.0))
+set_grown sets (x ∷ xs) (suc i) d h k =
+    let long : length (grown sets x) ≡ suc (length sets) = length-append sets ((x.name ∷ set_at sets x.parent.0) ∷ []) ∙ omega arith in
+    let there : length sets + suc i ≡ length (grown sets x) + i = omega (arith, long) in
+    ap (set_at (fold grown sets (x ∷ xs))) there ∙ set_grown (grown sets x) xs i d (subst (λ n. AreEarlierFrom n xs) (sym long) h.1) (omega arith)
+
+-- a set that isn't the first is its node's
+pub set_of_node : (nodes : List Node) (at : ℕ) (d : Node) → AreEarlier nodes → 0 < at → at ≤ length nodes → set_at (sets_of nodes) at ≡ (get_or nodes (at - 1) d).name ∷ set_at (sets_of nodes) (get_or nodes (at - 1) d).parent.0
+set_of_node nodes at d h k l =
+    let e : at ≡ 1 + (at - 1) = omega arith in
+    ap (set_at (sets_of nodes)) e ∙ set_grown ([] ∷ []) nodes (at - 1) d h (omega arith)
+
+pub length_sets : (nodes : List Node) → length (sets_of nodes) ≡ suc (length nodes)
+length_sets nodes = length_grown ([] ∷ []) nodes ∙ omega arith
+
+fold_append : (sets : Sets) (xs ys : List Node) → fold grown sets (xs ++ ys) ≡ fold grown (fold grown sets xs) ys
+fold_append sets [] ys = refl
+fold_append sets (x ∷ xs) ys = fold_append (grown sets x) xs ys
+
+pub grows_by : (nodes more : List Node) → Grows (sets_of nodes) (sets_of (nodes ++ more))
+grows_by nodes more = let g = fold_grows (sets_of nodes) more in (g.0, fold_append ([] ∷ []) nodes more ∙ g.1)
+
+pub grows_same : {A : Type 0} (xs : List A) → Grows xs xs
+grows_same xs = ([], sym (append-nil xs))
+
+pub grows_then : {A : Type 0} (xs ys zs : List A) → Grows xs ys → Grows ys zs → Grows xs zs
+grows_then xs ys zs g h = (g.0 ++ h.0, h.1 ∙ ap (λ l. l ++ h.0) g.1 ∙ append_assoc xs g.0 h.0)
+
+pub grows_keys : (b : Bool) (nodes new : List Node) (v : Node) → new ≡ (if b then nodes else nodes ++ v ∷ []) → Grows (sets_of nodes) (sets_of new)
+grows_keys true nodes new v e = subst (λ l. Grows (sets_of nodes) (sets_of l)) (sym e) (grows_same (sets_of nodes))
+grows_keys false nodes new v e = subst (λ l. Grows (sets_of nodes) (sets_of l)) (sym e) (grows_by nodes (v ∷ []))
+
+pub earlier_keys : (b : Bool) (nodes new : List Node) (v : Node) → new ≡ (if b then nodes else nodes ++ v ∷ []) → AreEarlier nodes → v.parent.0 < suc (length nodes) → AreEarlier new
+earlier_keys true nodes new v e h k = subst AreEarlier (sym e) h
+earlier_keys false nodes new v e h k = subst AreEarlier (sym e) (earlier_push 1 nodes v h (omega arith))
+
+-- a node that is found or put at a place makes the set behind it
+pub node_puts : (old : Sets) (nodes new : List Node) (v : Node) (place : ℕ) → sets_of nodes ≡ old → Grows (sets_of nodes) (sets_of new) → AreEarlier new → v.parent.0 < length old
+    → slice_get new place ≡ Some v → place < length new → Puts old (v.name ∷ set_at old v.parent.0) (sets_of new) (place + 1)
+node_puts old nodes new v place e g h p at within =
+    let got : get_or new place v ≡ v = get_or_from_slice_get new place v v at in
+    let here : (place + 1) - 1 ≡ place = omega arith in
+    let g2 : Grows old (sets_of new) = subst (λ s. Grows s (sets_of new)) e g in
+    let node : get_or new ((place + 1) - 1) v ≡ v = ap (λ n. get_or new n v) here ∙ got in
+    (
+      g2,
+      omega (arith, length_sets new),
+      set_of_node new (place + 1) v h (omega arith) (omega arith)
+      ∙ ap (λ n. n.name ∷ set_at (sets_of new) n.parent.0) node
+      ∙ ap (λ s. v.name ∷ s) (set_kept old (sets_of new) v.parent.0 g2 p),
+    )
+
+pub puts_new : (old new : Sets) (name : Name) (set n : ℕ) → has_name (set_at old set) name ≡ false → Puts old (name ∷ set_at old set) new n → Puts old (with_number name (set_at old set)) new n
+puts_new old new name set n e p = subst (λ s. Puts old s new n) (sym (ap (λ b. if b then set_at old set else name ∷ set_at old set) e)) p
+
+pub puts_same : (old : Sets) (name : Name) (set : ℕ) → has_name (set_at old set) name ≡ true → set < length old → Puts old (with_number name (set_at old set)) old set
+puts_same old name set e h = (grows_same old, h, sym (ap (λ b. if b then set_at old set else name ∷ set_at old set) e))
+
+pub first_is_empty : (nodes : List Node) → set_at (sets_of nodes) 0 ≡ []
+first_is_empty nodes = set_kept ([] ∷ []) (sets_of nodes) 0 (fold_grows ([] ∷ []) nodes) (omega arith)
+
+pub node_here : (old : Sets) (nodes : List Node) (at : ℕ) (d : Node) → sets_of nodes ≡ old → AreEarlier nodes → 0 < at → at ≤ length nodes → get_or nodes (at - 1) d ≡ d
+    → (set_at old at ≡ d.name ∷ set_at old d.parent.0) × (d.parent.0 < at)
+node_here old nodes at d v h k l e = (
+  subst (λ s. set_at s at ≡ d.name ∷ set_at s d.parent.0) v (set_of_node nodes at d h k l ∙ ap (λ n. n.name ∷ set_at (sets_of nodes) n.parent.0) e),
+  (let p = earlier_at 1 nodes (at - 1) d h (omega arith) in let q : d.parent.0 ≡ (get_or nodes (at - 1) d).parent.0 = ap (λ n. n.parent.0) (sym e) in omega (arith, p, q)),
+)

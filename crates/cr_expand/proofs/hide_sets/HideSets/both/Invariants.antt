@@ -1,0 +1,7 @@
+use Rattle.std.proofs.Common.{◌≡◌, ◌<◌, drop, length}
+use Rattle.cr_expand.specs.HideSets.{set_at, in_both, Grows}
+use Rattle.cr_expand.proofs.hide_sets.HideSets.both.Given as goal
+
+abbrev pub invariant-loop-i : goal.invariant-loop-i
+invariant-loop-i l =
+    Grows l.initial.self l.self × (l.common.0 < length l.self) × (set_at l.self l.common.0 ≡ in_both (drop l.i l.names.items) (set_at l.initial.self l.fn.other.0))

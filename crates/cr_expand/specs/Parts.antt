@@ -1,0 +1,71 @@
+-- Items filled in, with names and hide sets by number.
+use Rattle.std.specs.Prelude.{◌≡◌, ℕ, ◌+◌, ◌<◌, ◌≤◌, Bool, List, [], ◌∷◌, ◌++◌, length, map, slice_index_or, Option, Some, None}
+use Rattle.std.specs.List.{All}
+use Rattle.cr_base.specs.declared.token.PpTok.{PpTok}
+use Rattle.cr_expand.specs.declared.macros.Seen.{Seen}
+use Rattle.cr_expand.specs.declared.held.Held.{Held}
+use Rattle.cr_expand.specs.declared.notes.Notes.{Notes}
+use Rattle.cr_expand.specs.declared.items.Item.{Item}
+use Rattle.cr_expand.specs.declared.items.Item.TheVariants as item
+use Rattle.cr_expand.specs.declared.parts.Part.{Part}
+use Rattle.cr_expand.specs.declared.parts.Part.TheVariants as part
+use Rattle.cr_expand.specs.declared.fault.ExpandFault.{ExpandFault}
+use Rattle.cr_expand.specs.Tokens.{Text, Token, token_of, Work}
+use Rattle.cr_expand.specs.Substitution as spec
+use Rattle.cr_expand.specs.HideSets.{Sets, Grows}
+use Rattle.cr_expand.specs.Held.{held, all_held, all_args, IsKnown, AreKnown, AreTables, IsNamed, Watch, Does, Stops}
+use Rattle.cr_expand.specs.Items.{item_text, item_texts, IsTokenNamed}
+
+-- a part with its text
+abbrev pub part_text : List Text → Sets → Part → spec.Part
+part_text names sets (part.Is h) = spec.Is (held names sets h)
+part_text names sets part.Placemarker = spec.Placemarker
+part_text names sets part.Joins = spec.Joins
+
+abbrev pub part_texts : List Text → Sets → List Part → List spec.Part
+part_texts names sets = map {A = Part} (part_text names sets)
+
+abbrev pub IsPartKnown : List Text → Sets → Part → Type 0
+IsPartKnown names sets (part.Is h) = IsKnown names sets h
+IsPartKnown names sets part.Placemarker = Unit {0}
+IsPartKnown names sets part.Joins = Unit {0}
+
+-- the tokens of a list of arguments
+abbrev pub arg_here : List (List Held) → ℕ → List Held
+arg_here args i = slice_index_or args i []
+
+abbrev pub spaced : Bool → List Held → List Held
+spaced space [] = []
+spaced space (h ∷ hs) = record { token = record h.token { space = space }; hide = h.hide } ∷ hs
+
+abbrev pub parts_here : List Held → List Part
+parts_here = map {A = Held} (λ h. part.Is h)
+
+abbrev pub or_placemarker_here : List Held → List Part
+or_placemarker_here [] = part.Placemarker ∷ []
+or_placemarker_here (h ∷ hs) = part.Is h ∷ parts_here hs
+
+abbrev pub comma_and_here : Held → List Held → List Held → List Held
+comma_and_here comma full [] = []
+comma_and_here comma full (a ∷ as1) = comma ∷ full
+
+abbrev pub unhidden : PpTok → Held
+unhidden t = record { token = t; hide = record { 0 = 0 } }
+
+-- An item that is no string, filled in; a string is made elsewhere.
+abbrev pub filled_here : List (List Held) → List (List Held) → Held → Item → List Part
+filled_here raw full made (item.Stays t) = part.Is (unhidden t) ∷ []
+filled_here raw full made (item.Spelt hash i) = part.Is made ∷ []
+filled_here raw full made (item.Bare t i) = or_placemarker_here (spaced t.space (arg_here raw i))
+filled_here raw full made (item.Full t i) = parts_here (spaced t.space (arg_here full i))
+filled_here raw full made (item.CommaRest comma t i) = or_placemarker_here (comma_and_here (unhidden comma) (spaced t.space (arg_here full i)) (arg_here raw i))
+filled_here raw full made item.Paste = part.Joins ∷ []
+
+-- The names of an item's tokens are known.
+abbrev pub IsItemNamed : List Text → Item → Type 0
+IsItemNamed names (item.Stays t) = IsTokenNamed names t
+IsItemNamed names (item.Spelt t i) = IsTokenNamed names t
+IsItemNamed names (item.Bare t i) = IsTokenNamed names t
+IsItemNamed names (item.Full t i) = IsTokenNamed names t
+IsItemNamed names (item.CommaRest comma t i) = IsTokenNamed names comma × IsTokenNamed names t
+IsItemNamed names item.Paste = Unit {0}
