@@ -172,10 +172,10 @@ fn as_number(value: Result<Value, CondFault>) -> Result<i128, CondFault>
 ///
 /// `MadeDefined` stands exactly where an identifier `defined` is left. Then comes `Syntax`, where the
 /// tokens are no conditional expression without assignment, comma and cast; then `Constant`, where an
-/// operand is a constant that isn't an integer or a character of 64 bits; then the first fault in
-/// evaluation, left before right: `DivideByZero`, or `Overflow` for a signed result out of range, for
-/// a shift by less than 0 or more than 63, and for a left shift of a negative number. Operands that
-/// `&&`, `||` and `?:` don't evaluate give no fault in evaluation.
+/// operand is a constant that is neither an integer that has 64 bits nor a character below 128; then
+/// the first fault in evaluation, left before right: `DivideByZero`, or `Overflow` for a signed result
+/// out of range, for a shift by less than 0 or more than 63, and for a left shift of a negative
+/// number. Operands that `&&`, `||` and `?:` don't evaluate give no fault in evaluation.
 pub fn value(alloc: Global, names: &NameTable, tokens: &[PpTok]) -> Result<i128, CondFault>
     ensures { IsAnswer (numbered (value_of (lexemes names.now tokens.now))) result }
 {
