@@ -1,3 +1,4 @@
 pub mod Spellings
 pub mod Joins
 pub mod Lexing
+pub mod Scanning

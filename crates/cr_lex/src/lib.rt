@@ -1,5 +1,6 @@
 //! From the bytes of a file to preprocessing tokens.
 #![tactic(auto)]
 
-/// The limit of the bytes of a file.
-pub const MAX_BYTES: usize = 16_777_216;
+mod cell;
+mod part;
+mod scan;
