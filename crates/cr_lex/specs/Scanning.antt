@@ -1,11 +1,11 @@
 -- How the code goes over a file: a part by its first byte, and then byte by byte. No public clause says more of
 -- these than `Lexing` does.
 use Rattle.std.specs.Prelude.{ℕ, zero, suc, ◌≡◌, ◌+◌, ◌<◌, ◌≤◌, Bool, true, false, not, ◌&&◌, ◌||◌, ◌==◌, List, [], ◌∷◌, take, drop, length, count_by, slice_index, codes, Option, Some, None, Result, Ok, Err, if◌then◌else◌}
-use Rattle.std.specs.Option.{option_map}
+use Rattle.std.specs.Option.{option_map, unwrap_or}
 use Rattle.cr_base.specs.Names.{is_digit, is_word_byte, starts_name}
 use Rattle.cr_base.specs.declared.token.PpKind.{PpKind}
 use Rattle.cr_base.specs.declared.token.PpKind.TheVariants.{Ident, Number, Char, Str, Punct, Stray}
-use Rattle.cr_lex.specs.Spellings.{is_one_of, starts_with, goes_on_behind, is_pair, is_triple, is_blank_byte}
+use Rattle.cr_lex.specs.Spellings.{is_one_of, goes_on_behind, is_pair, is_triple, is_blank_byte}
 use Rattle.cr_lex.specs.Joins.{Cell, cells, join_len, is_trigraph, text_of}
 use Rattle.cr_lex.specs.declared.part.Found.{Found}
 use Rattle.cr_lex.specs.declared.part.Found.TheVariants as found
@@ -80,123 +80,137 @@ abbrev pub block_end : Bool → List Cell → Option ℕ
 block_end star [] = None
 block_end star (c ∷ cs) = if star && c.byte == 47 then Some (c.at + 1) else block_end (c.byte == 42) cs
 
+-- not a line feed
+abbrev pub is_not_line_feed : ℕ → Bool
+is_not_line_feed b = not (b == 10)
+
+abbrev pub ok : Result ℕ ℕ → Option ℕ
+ok (Ok end) = Some end
+ok (Err end) = None
+
 -- Each of these quotes before an offset is not closed on its line.
 abbrev pub Unclosed : ℕ → ℕ → List Cell → Type 0
 Unclosed q limit [] = Unit {0}
-Unclosed q limit (c ∷ cs) = (c.at < limit → c.byte ≡ q → closing q false (text_of cs) ≡ None) × Unclosed q limit cs
+Unclosed q limit (c ∷ cs) = (c.at < limit → c.byte ≡ q → ok (closed q false (c.at + 1) cs) ≡ None) × Unclosed q limit cs
 
 -- each single quote before the one offset, and each double quote before the other, is not closed
 pub record AreMarks (bytes : List ℕ) (at : ℕ) (marks : Marks) : Type 0 where
   pub char : Unclosed 39 marks.char (rest bytes at)
   pub string : Unclosed 34 marks.string (rest bytes at)
 
--- a part of so many bytes more than the first
-abbrev pub Ahead : Type 0
-Ahead = ℕ × Found
+abbrev pub part : Found → ℕ → Part
+part what end = record { found = what; end = end }
+
+-- the first cell has this byte
+abbrev pub starts_at : ℕ → List Cell → Bool
+starts_at q [] = false
+starts_at q (c ∷ cs) = c.byte == q
+
+-- where a character ends behind its first quote, if it is closed and has an element
+abbrev pub char_end : ℕ → List Cell → Option ℕ
+char_end from cs = if starts_at 39 cs then None else ok (closed 39 false from cs)
+
+-- where a string ends behind its first quote, if it is closed
+abbrev pub string_end : ℕ → List Cell → Option ℕ
+string_end from cs = ok (closed 34 false from cs)
+
+-- a literal behind its first quote
+abbrev pub literal_part : ℕ → ℕ → List Cell → Option Part
+literal_part q from cs =
+    if q == 39 then option_map (part (found.Piece Char)) (char_end from cs)
+    else if q == 34 then option_map (part (found.Piece Str)) (string_end from cs)
+    else None
+
+-- a string behind `u8`
+abbrev pub u8_part : List Cell → Option Part
+u8_part [] = None
+u8_part (c ∷ cs) = if c.byte == 34 then option_map (part (found.Piece Str)) (string_end (c.at + 1) cs) else None
 
 abbrev pub is_quote : ℕ → Bool
 is_quote b = b == 39 || b == 34
 
-abbrev pub literal_kind : ℕ → PpKind
-literal_kind q = if q == 39 then Char else Str
-
--- what follows a quote, up to its closing one
-abbrev pub closing_of : ℕ → List ℕ → Option ℕ
-closing_of q bs = if q == 39 && starts_with 39 bs then None else closing q false bs
-
-abbrev pub or_stray : PpKind → Option ℕ → Ahead
-or_stray kind None = (0, found.Piece Stray)
-or_stray kind (Some n) = (n, found.Piece kind)
-
--- a quote at the front
-abbrev pub quote_ahead : ℕ → List ℕ → Ahead
-quote_ahead q bs = or_stray (literal_kind q) (closing_of q bs)
-
--- a literal behind `u8`
-abbrev pub u8_ahead : List ℕ → Option Ahead
-u8_ahead [] = None
-u8_ahead (q ∷ bs) = if q == 34 then option_map (λ n. (suc (suc n), found.Piece Str)) (closing 34 false bs) else None
+abbrev pub is_wide : ℕ → Bool
+is_wide b = is_one_of (codes "LuU") b
 
 -- a literal behind a prefix that begins with a byte
-abbrev pub prefixed_ahead : ℕ → List ℕ → Option Ahead
-prefixed_ahead a [] = None
-prefixed_ahead a (q ∷ bs) =
-    if is_one_of (codes "LuU") a && is_quote q
-    then option_map (λ n. (suc n, found.Piece (literal_kind q))) (closing_of q bs)
-    else if a == 117 && q == 56 then u8_ahead bs
+abbrev pub prefixed_part : ℕ → List Cell → Option Part
+prefixed_part a [] = None
+prefixed_part a (c ∷ cs) =
+    if is_wide a && is_quote c.byte then literal_part c.byte (c.at + 1) cs
+    else if a == 117 && c.byte == 56 then u8_part cs
     else None
 
-abbrev pub or_word : ℕ → Option Ahead → Ahead
-or_word n None = (n, found.Piece Ident)
-or_word n (Some ahead) = ahead
+-- a literal behind a letter, or else a word
+abbrev pub word_part : ℕ → ℕ → List Cell → Part
+word_part a from cs = unwrap_or (prefixed_part a cs) (part (found.Piece Ident) (run_end is_word_byte from cs))
 
--- a letter or `_` at the front
-abbrev pub word_ahead : ℕ → List ℕ → Ahead
-word_ahead a bs = or_word (run is_word_byte bs) (prefixed_ahead a bs)
+-- a literal behind its quote, or else a stray quote
+abbrev pub quote_part : ℕ → ℕ → List Cell → Part
+quote_part q from cs = unwrap_or (literal_part q from cs) (part (found.Piece Stray) from)
 
-abbrev pub is_pair_at : ℕ → List ℕ → Bool
-is_pair_at a [] = false
-is_pair_at a (b ∷ bs) = is_pair a b
+abbrev pub pair_end : ℕ → List Cell → Option ℕ
+pair_end a [] = None
+pair_end a (c ∷ cs) = if is_pair a c.byte then Some (c.at + 1) else None
 
-abbrev pub is_triple_at : ℕ → List ℕ → Bool
-is_triple_at a (b ∷ c ∷ bs) = is_triple a b c
-is_triple_at a _ = false
+abbrev pub triple_end : ℕ → List Cell → Option ℕ
+triple_end a (c ∷ d ∷ cs) = if is_triple a c.byte d.byte then Some (d.at + 1) else None
+triple_end a _ = None
 
-abbrev pub is_quad_at : ℕ → List ℕ → Bool
-is_quad_at a (b ∷ c ∷ d ∷ bs) = a == 37 && (b == 58 && (c == 37 && d == 58))
-is_quad_at a _ = false
+-- `%:%:`
+abbrev pub is_quad : ℕ → ℕ → ℕ → ℕ → Bool
+is_quad a b c d = a == 37 && (b == 58 && (c == 37 && d == 58))
+
+abbrev pub quad_end : ℕ → List Cell → Option ℕ
+quad_end a (c ∷ d ∷ e ∷ cs) = if is_quad a c.byte d.byte e.byte then Some (e.at + 1) else None
+quad_end a _ = None
 
 abbrev pub is_single : ℕ → Bool
 is_single a = is_one_of (codes "[](){}.&*+-~!/%<>^|?:;=,#") a
 
--- a punctuator, or a stray byte
-abbrev pub punct_ahead : ℕ → List ℕ → Ahead
-punct_ahead a bs =
-    if is_quad_at a bs then (3, found.Piece Punct)
-    else if is_triple_at a bs then (2, found.Piece Punct)
-    else if is_pair_at a bs then (1, found.Piece Punct)
-    else if is_single a then (0, found.Piece Punct)
-    else (0, found.Piece Stray)
+abbrev pub single_found : ℕ → Found
+single_found a = if is_single a then found.Piece Punct else found.Piece Stray
 
--- `.` at the front
-abbrev pub dot_ahead : List ℕ → Ahead
-dot_ahead [] = punct_ahead 46 []
-dot_ahead (b ∷ bs) = if is_digit b then (suc (number_run b bs), found.Piece Number) else punct_ahead 46 (b ∷ bs)
+abbrev pub or_else : Option ℕ → Option ℕ → Option ℕ
+or_else None other = other
+or_else (Some end) other = Some end
 
-abbrev pub or_open : Option ℕ → Ahead
-or_open None = (0, found.OpenComment)
-or_open (Some n) = (suc n, found.Comment)
+-- a punctuator, or else a stray byte
+abbrev pub punct_part : ℕ → ℕ → List Cell → Part
+punct_part a from cs =
+    unwrap_or
+      (option_map (part (found.Piece Punct)) (or_else (quad_end a cs) (or_else (triple_end a cs) (pair_end a cs))))
+      (part (single_found a) from)
 
-abbrev pub is_not_line_feed : ℕ → Bool
-is_not_line_feed b = not (b == 10)
+-- behind `.`
+abbrev pub dot_part : ℕ → List Cell → Part
+dot_part from [] = punct_part 46 from []
+dot_part from (c ∷ cs) =
+    if is_digit c.byte then part (found.Piece Number) (number_end c.byte (c.at + 1) cs) else punct_part 46 from (c ∷ cs)
 
--- `/` at the front
-abbrev pub slash_ahead : List ℕ → Ahead
-slash_ahead [] = punct_ahead 47 []
-slash_ahead (b ∷ bs) =
-    if b == 42 then or_open (block false bs)
-    else if b == 47 then (suc (run is_not_line_feed bs), found.Comment)
-    else punct_ahead 47 (b ∷ bs)
+-- behind `/*`, which ends at an offset
+abbrev pub block_part : ℕ → Option ℕ → Part
+block_part from None = part found.OpenComment from
+block_part from (Some end) = part found.Comment end
 
--- the part that begins with a byte
-unfoldable pub ahead : ℕ → List ℕ → Ahead
-ahead a bs =
-    if is_blank_byte a then (0, found.Blank)
-    else if a == 10 then (0, found.LineEnd)
-    else if starts_name a then word_ahead a bs
-    else if is_digit a then (number_run a bs, found.Piece Number)
-    else if a == 46 then dot_ahead bs
-    else if is_quote a then quote_ahead a bs
-    else if a == 47 then slash_ahead bs
-    else punct_ahead a bs
+-- behind `/`
+abbrev pub slash_part : ℕ → List Cell → Part
+slash_part from [] = punct_part 47 from []
+slash_part from (c ∷ cs) =
+    if c.byte == 42 then block_part from (block_end false cs)
+    else if c.byte == 47 then part found.Comment (run_end is_not_line_feed (c.at + 1) cs)
+    else punct_part 47 from (c ∷ cs)
 
--- a part as the code has it, behind an offset
-abbrev pub part_behind : List ℕ → ℕ → Ahead → Part
-part_behind bytes from (n, what) = record { found = what; end = behind n from (rest bytes from) }
-
--- what the code finds behind an offset
-abbrev pub text_from : List ℕ → ℕ → List ℕ
-text_from bytes from = text_of (rest bytes from)
+-- the part that begins with a byte and goes on in the cells behind it
+abbrev pub part_behind : ℕ → ℕ → List Cell → Part
+part_behind a from cs =
+    if is_blank_byte a then part found.Blank from
+    else if a == 10 then part found.LineEnd from
+    else if starts_name a then word_part a from cs
+    else if is_digit a then part (found.Piece Number) (number_end a from cs)
+    else if a == 46 then dot_part from cs
+    else if is_quote a then quote_part a from cs
+    else if a == 47 then slash_part from cs
+    else punct_part a from cs
 
 -- an offset from another on, and which it is
 abbrev pub IsReached : List ℕ → ℕ → ℕ → ℕ → Type 0
@@ -209,3 +223,15 @@ IsReachedAt bytes from end (Some at) = (from ≤ at) × (at ≤ length bytes) ×
 abbrev pub IsClosed : List ℕ → ℕ → Result ℕ ℕ → Result ℕ ℕ → Type 0
 IsClosed bytes from end (Ok at) = (from ≤ at) × (at ≤ length bytes) × (end ≡ Ok at)
 IsClosed bytes from end (Err at) = end ≡ Err at
+
+-- a literal's end, or that there is none
+abbrev pub IsEnd : List ℕ → ℕ → Option ℕ → Option ℕ → Type 0
+IsEnd bytes from end at = IsReachedAt bytes from end at
+
+-- a part that ends within the bytes
+abbrev pub IsPart : List ℕ → ℕ → Part → Part → Type 0
+IsPart bytes from want got = (from ≤ got.end) × (got.end ≤ length bytes) × (got ≡ want)
+
+abbrev pub IsPartAt : List ℕ → ℕ → Option Part → Option Part → Type 0
+IsPartAt bytes from want None = want ≡ None
+IsPartAt bytes from want (Some got) = (from ≤ got.end) × (got.end ≤ length bytes) × (want ≡ Some got)

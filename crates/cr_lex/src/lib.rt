@@ -3,4 +3,5 @@
 
 mod cell;
 mod part;
+mod punctuator;
 mod scan;
