@@ -1,2 +1,3 @@
 mod Rows
 pub mod Cells
+pub mod Marks

@@ -1,12 +1,11 @@
 -- How the code goes over a file: a part by its first byte, and then byte by byte. No public clause says more of
 -- these than `Lexing` does.
-use Rattle.std.specs.Prelude.{ℕ, zero, suc, ◌≡◌, ◌+◌, ◌<◌, ◌≤◌, Bool, true, false, not, ◌&&◌, ◌||◌, ◌==◌, List, [], ◌∷◌, take, drop, length, count_by, slice_index, codes, Option, Some, None, Result, Ok, Err, if◌then◌else◌}
+use Rattle.std.specs.Prelude.{ℕ, zero, suc, ◌≡◌, ◌+◌, ◌<◌, ◌≤◌, Bool, false, not, ◌&&◌, ◌||◌, ◌==◌, List, [], ◌∷◌, take, drop, length, count_by, slice_index, codes, Option, Some, None, Result, Ok, Err, if◌then◌else◌}
 use Rattle.std.specs.Option.{option_map, unwrap_or}
 use Rattle.cr_base.specs.Names.{is_digit, is_word_byte, starts_name}
-use Rattle.cr_base.specs.declared.token.PpKind.{PpKind}
 use Rattle.cr_base.specs.declared.token.PpKind.TheVariants.{Ident, Number, Char, Str, Punct, Stray}
 use Rattle.cr_lex.specs.Spellings.{is_one_of, goes_on_behind, is_pair, is_triple, is_blank_byte}
-use Rattle.cr_lex.specs.Joins.{Cell, cells, join_len, is_trigraph, text_of}
+use Rattle.cr_lex.specs.Joins.{Cell, cells, is_trigraph}
 use Rattle.cr_lex.specs.declared.part.Found.{Found}
 use Rattle.cr_lex.specs.declared.part.Found.TheVariants as found
 use Rattle.cr_lex.specs.declared.part.Part.{Part}
@@ -114,17 +113,23 @@ char_end from cs = if starts_at 39 cs then None else ok (closed 39 false from cs
 abbrev pub string_end : ℕ → List Cell → Option ℕ
 string_end from cs = ok (closed 34 false from cs)
 
+abbrev pub char_part : ℕ → List Cell → Option Part
+char_part from cs = option_map (part (found.Piece Char)) (char_end from cs)
+
+abbrev pub string_part : ℕ → List Cell → Option Part
+string_part from cs = option_map (part (found.Piece Str)) (string_end from cs)
+
 -- a literal behind its first quote
 abbrev pub literal_part : ℕ → ℕ → List Cell → Option Part
 literal_part q from cs =
-    if q == 39 then option_map (part (found.Piece Char)) (char_end from cs)
-    else if q == 34 then option_map (part (found.Piece Str)) (string_end from cs)
+    if q == 39 then char_part from cs
+    else if q == 34 then string_part from cs
     else None
 
 -- a string behind `u8`
 abbrev pub u8_part : List Cell → Option Part
 u8_part [] = None
-u8_part (c ∷ cs) = if c.byte == 34 then option_map (part (found.Piece Str)) (string_end (c.at + 1) cs) else None
+u8_part (c ∷ cs) = if c.byte == 34 then string_part (c.at + 1) cs else None
 
 abbrev pub is_quote : ℕ → Bool
 is_quote b = b == 39 || b == 34
@@ -178,8 +183,8 @@ or_else (Some end) other = Some end
 abbrev pub punct_part : ℕ → ℕ → List Cell → Part
 punct_part a from cs =
     unwrap_or
-      (option_map (part (found.Piece Punct)) (or_else (quad_end a cs) (or_else (triple_end a cs) (pair_end a cs))))
-      (part (single_found a) from)
+    (option_map (part (found.Piece Punct)) (or_else (quad_end a cs) (or_else (triple_end a cs) (pair_end a cs))))
+    (part (single_found a) from)
 
 -- behind `.`
 abbrev pub dot_part : ℕ → List Cell → Part
@@ -187,7 +192,7 @@ dot_part from [] = punct_part 46 from []
 dot_part from (c ∷ cs) =
     if is_digit c.byte then part (found.Piece Number) (number_end c.byte (c.at + 1) cs) else punct_part 46 from (c ∷ cs)
 
--- behind `/*`, which ends at an offset
+-- behind `/*`, up to this end of the comment
 abbrev pub block_part : ℕ → Option ℕ → Part
 block_part from None = part found.OpenComment from
 block_part from (Some end) = part found.Comment end
@@ -196,7 +201,7 @@ block_part from (Some end) = part found.Comment end
 abbrev pub slash_part : ℕ → List Cell → Part
 slash_part from [] = punct_part 47 from []
 slash_part from (c ∷ cs) =
-    if c.byte == 42 then block_part from (block_end false cs)
+    if c.byte == 42 then block_part (c.at + 1) (block_end false cs)
     else if c.byte == 47 then part found.Comment (run_end is_not_line_feed (c.at + 1) cs)
     else punct_part 47 from (c ∷ cs)
 

@@ -2,6 +2,7 @@
 #![tactic(auto)]
 
 mod cell;
+mod literal;
 mod part;
 mod punctuator;
 mod scan;

@@ -8,19 +8,35 @@ use crate::cell::byte_from;
 use crate::part::{Found, Part};
 use cr_base::PpKind;
 
-fn is_bracket(byte: u8) -> bool
-    ensures { result ≡ spellings.is_one_of (codes "[](){}") byte }
-{
-    matches!(byte, b'[' | b']' | b'(' | b')' | b'{' | b'}')
-}
-
 fn is_single(byte: u8) -> bool
     ensures { result ≡ scanning.is_single byte }
 {
     matches!(
         byte,
-        b'[' | b']' | b'(' | b')' | b'{' | b'}' | b'.' | b'&' | b'*' | b'+' | b'-' | b'~' | b'!'
-            | b'/' | b'%' | b'<' | b'>' | b'^' | b'|' | b'?' | b':' | b';' | b'=' | b',' | b'#'
+        b'[' | b']'
+            | b'('
+            | b')'
+            | b'{'
+            | b'}'
+            | b'.'
+            | b'&'
+            | b'*'
+            | b'+'
+            | b'-'
+            | b'~'
+            | b'!'
+            | b'/'
+            | b'%'
+            | b'<'
+            | b'>'
+            | b'^'
+            | b'|'
+            | b'?'
+            | b':'
+            | b';'
+            | b'='
+            | b','
+            | b'#'
     )
 }
 

@@ -1,5 +1,4 @@
 use Rattle.std.proofs.Common.{length, ◌-◌, ◌≡◌, ◌≤◌}
-use Rattle.cr_base.specs.Names as names
 use Rattle.cr_lex.specs.Scanning as scanning
 use Rattle.cr_lex.specs.Scanning.{rest}
 use Rattle.cr_lex.proofs.scan.line_end.Given as goal
