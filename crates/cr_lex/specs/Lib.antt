@@ -2,3 +2,6 @@ pub mod Spellings
 pub mod Joins
 pub mod Lexing
 pub mod Scanning
+pub mod Standing
+pub mod Seen
+pub mod Lexers

@@ -1,6 +1,6 @@
 -- How the code goes over a file: a part by its first byte, and then byte by byte. No public clause says more of
 -- these than `Lexing` does.
-use Rattle.std.specs.Prelude.{ℕ, zero, suc, ◌≡◌, ◌+◌, ◌<◌, ◌≤◌, Bool, false, not, ◌&&◌, ◌||◌, ◌==◌, List, [], ◌∷◌, take, drop, length, count_by, slice_index, codes, Option, Some, None, Result, Ok, Err, if◌then◌else◌}
+use Rattle.std.specs.Prelude.{ℕ, zero, suc, ◌≡◌, ◌+◌, ◌<◌, ◌≤◌, Bool, false, not, ◌&&◌, ◌||◌, ◌==◌, List, [], ◌∷◌, take, drop, length, count_by, slice_index, nat_lt, codes, Option, Some, None, Result, Ok, Err, if◌then◌else◌}
 use Rattle.std.specs.Option.{option_map, unwrap_or}
 use Rattle.cr_base.specs.Names.{is_digit, is_word_byte, starts_name}
 use Rattle.cr_base.specs.declared.token.PpKind.TheVariants.{Ident, Number, Char, Str, Punct, Stray}
@@ -195,20 +195,20 @@ dot_part from (c ∷ cs) =
 -- behind `/*`, up to this end of the comment
 abbrev pub block_part : ℕ → Option ℕ → Part
 block_part from None = part found.OpenComment from
-block_part from (Some end) = part found.Comment end
+block_part from (Some end) = part found.Space end
 
 -- behind `/`
 abbrev pub slash_part : ℕ → List Cell → Part
 slash_part from [] = punct_part 47 from []
 slash_part from (c ∷ cs) =
     if c.byte == 42 then block_part (c.at + 1) (block_end false cs)
-    else if c.byte == 47 then part found.Comment (run_end is_not_line_feed (c.at + 1) cs)
+    else if c.byte == 47 then part found.Space (run_end is_not_line_feed (c.at + 1) cs)
     else punct_part 47 from (c ∷ cs)
 
 -- the part that begins with a byte and goes on in the cells behind it
 abbrev pub part_behind : ℕ → ℕ → List Cell → Part
 part_behind a from cs =
-    if is_blank_byte a then part found.Blank from
+    if is_blank_byte a then part found.Space from
     else if a == 10 then part found.LineEnd from
     else if starts_name a then word_part a from cs
     else if is_digit a then part (found.Piece Number) (number_end a from cs)
@@ -240,3 +240,12 @@ IsPart bytes from want got = (from ≤ got.end) × (got.end ≤ length bytes) ×
 abbrev pub IsPartAt : List ℕ → ℕ → Option Part → Option Part → Type 0
 IsPartAt bytes from want None = want ≡ None
 IsPartAt bytes from want (Some got) = (from ≤ got.end) × (got.end ≤ length bytes) × (want ≡ Some got)
+
+-- the cells that stand before an offset
+abbrev pub upto : ℕ → List Cell → List Cell
+upto end [] = []
+upto end (c ∷ cs) = if nat_lt c.at end then c ∷ upto end cs else []
+
+-- the cells from one offset up to another
+abbrev pub own_cells : List ℕ → ℕ → ℕ → List Cell
+own_cells bytes at end = upto end (rest bytes at)

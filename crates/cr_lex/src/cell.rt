@@ -10,8 +10,8 @@ pub struct Byte {
     pub at: usize,
 }
 
-// How many bytes the join at an offset has.
-fn join_len(bytes: &[u8], at: usize) -> usize
+/// How many bytes the join at an offset has.
+pub fn join_len(bytes: &[u8], at: usize) -> usize
     requires { at < length bytes.now }
     ensures { result ≡ joins.join_len (drop at bytes.now) }
 {

@@ -2,7 +2,13 @@
 #![tactic(auto)]
 
 mod cell;
+mod fault;
+mod lexer;
 mod literal;
 mod part;
 mod punctuator;
 mod scan;
+mod spot;
+mod text;
+
+pub use fault::{LexFault, LexStep, Lexed};

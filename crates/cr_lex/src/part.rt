@@ -10,12 +10,11 @@ use crate::punctuator::punct_part;
 use crate::scan::{block_end, line_end, number_end, word_end};
 use cr_base::{PpKind, is_digit, starts_name};
 
-/// What a part is. An `OpenComment` is `/*` without an end.
+/// What a part is. A comment is white space (C11 5.1.1.2, phase 3); an `OpenComment` is `/*` without an end.
 #[derive(Clone, Copy, Debug, PartialEq, Eq)]
 pub enum Found {
-    Blank,
+    Space,
     LineEnd,
-    Comment,
     OpenComment,
     Piece(PpKind),
 }
@@ -35,7 +34,9 @@ pub struct Marks {
 }
 
 /// What is known of quotes at a file's beginning: nothing.
-pub fn no_marks() -> Marks {
+pub fn no_marks() -> Marks
+    ensures { result ≡ record { char = 0; string = 0 } }
+{
     Marks { char: 0, string: 0 }
 }
 
@@ -94,7 +95,7 @@ fn block_part(bytes: &[u8], from: usize) -> Part
 {
     match block_end(bytes, from) {
         Some(end) => Part {
-            found: Found::Comment,
+            found: Found::Space,
             end,
         },
         None => Part {
@@ -111,7 +112,7 @@ fn slash_part(bytes: &[u8], from: usize) -> Part
     match byte_from(bytes, from) {
         Some(next) if next.byte == b'*' => block_part(bytes, next.at + 1),
         Some(next) if next.byte == b'/' => Part {
-            found: Found::Comment,
+            found: Found::Space,
             end: line_end(bytes, next.at + 1),
         },
         _ => punct_part(bytes, b'/', from),
@@ -133,7 +134,7 @@ pub fn part_at(bytes: &[u8], first: Byte, marks: &mut Marks) -> Part
 {
     let from = first.at + 1;
     if is_blank(first.byte) {
-        plain(Found::Blank, from)
+        plain(Found::Space, from)
     } else if first.byte == b'\n' {
         plain(Found::LineEnd, from)
     } else if starts_name(first.byte) {
