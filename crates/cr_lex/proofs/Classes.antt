@@ -1,14 +1,12 @@
 -- The longest part, by the first byte.
-use Rattle.std.proofs.Common.{◌≡◌, ℕ, zero, suc, ◌+◌, ◌-◌, ◌<◌, ◌≤◌, ◌⊎◌, inl, inr, Bool, true, false, not, ◌&&◌, ◌||◌, cond, List, [], ◌∷◌, length, map, take, Option, Some, None, refl, ap, sym, ◌∙◌, subst, arith, codes}
-use Rattle.std.specs.Prelude.{◌==◌, if◌then◌else◌, nat_le}
-use Rattle.std.specs.List.{list_all, list_any}
-use Rattle.std.specs.Option.{option_map}
-use Rattle.std.proofs.lemmas.Bool.{cases_Bool, cases_lt, cases_eq, and_left, or_left, eqb-true, eqb-false, eq-eqb, ne_eqb}
+use Rattle.std.proofs.Common.{◌≡◌, ℕ, zero, suc, ◌<◌, ◌≤◌, ◌⊎◌, inl, inr, Bool, true, false, not, ◌&&◌, ◌||◌, cond, List, [], ◌∷◌, length, take, Option, Some, None, refl, ap, sym, ◌∙◌, arith, codes}
+use Rattle.std.specs.Prelude.{◌==◌, if◌then◌else◌}
+use Rattle.std.specs.List.{list_all}
+use Rattle.std.proofs.lemmas.Bool.{cases_eq, and_left, eqb-true, eq-eqb, ne_eqb}
 use Rattle.std.proofs.lemmas.Bool.Decides.{nat_tests}
-use Rattle.cr_base.specs.Names.{is_identifier, is_digit, is_word_byte, starts_name}
-use Rattle.cr_base.specs.declared.token.PpKind.{PpKind}
-use Rattle.cr_base.specs.declared.token.PpKind.TheVariants.{Ident, Number, Char, Str, Punct, Stray}
-use Rattle.cr_lex.specs.Spellings.{Part, Blank, LineEnd, Comment, Piece, part_of, is_blank, is_blank_byte, is_line_end, is_comment, is_number, is_char, is_string, is_punctuator, is_pair, is_triple, is_empty, is_one_of, starts_with, is_quoted, is_quoted_char, is_elements_and, is_behind_u8, goes_on_a_number, is_digit_and_more, is_up_to_end}
+use Rattle.cr_base.specs.Names.{is_digit, starts_name}
+use Rattle.cr_base.specs.declared.token.PpKind.TheVariants.{Number, Char, Str, Punct, Stray}
+use Rattle.cr_lex.specs.Spellings.{Part, Blank, LineEnd, Comment, Piece, part_of, is_blank_byte, is_comment, is_number, is_char, is_string, is_punctuator, is_pair, is_triple, is_empty, is_one_of, starts_with, is_quoted, is_quoted_char, is_elements_and, is_behind_u8, goes_on_a_number, is_digit_and_more, is_up_to_end}
 use Rattle.cr_lex.specs.Lexing.{longest_part}
 use Rattle.cr_lex.specs.Scanning.{run, number_run, closing, block, is_quote, is_wide, is_not_line_feed}
 use Rattle.cr_lex.proofs.Fronts.{run_in, run_out, run_fits, number_in, number_out, number_fits, is_at, elements_at, closing_fits, up_to_end_at, block_fits}
@@ -29,7 +27,7 @@ record IsPlainByte (a : ℕ) : Type 0 where
 miss_char : (a : ℕ) (xs : List ℕ) → IsPlainByte a → is_char (a ∷ xs) ≡ false
 miss_char a xs h = ap (λ t. (t && (not (starts_with 39 xs) && is_elements_and 39 xs)) || (is_wide a && is_quoted_char xs)) h.char ∙ and_left (is_wide a) (is_quoted_char xs) h.wide
 
-miss_u8 : (a : ℕ) (xs : List ℕ) → (a == 117) ≡ false → is_behind_u8 (is_quoted 34) (a ∷ xs) ≡ false
+pub miss_u8 : (a : ℕ) (xs : List ℕ) → (a == 117) ≡ false → is_behind_u8 (is_quoted 34) (a ∷ xs) ≡ false
 miss_u8 a [] e = refl
 miss_u8 a (b ∷ bs) e = and_left (a == 117) _ e
 
@@ -39,7 +37,7 @@ miss_string a xs h =
     ∙ ap (λ t. (t && is_quoted 34 xs) || is_behind_u8 (is_quoted 34) (a ∷ xs)) h.wide
     ∙ miss_u8 a xs h.u
 
-miss_number : (a : ℕ) (xs : List ℕ) → is_digit a ≡ false → (a == 46) ≡ false → is_number (a ∷ xs) ≡ false
+pub miss_number : (a : ℕ) (xs : List ℕ) → is_digit a ≡ false → (a == 46) ≡ false → is_number (a ∷ xs) ≡ false
 miss_number a xs d e = ap (λ t. (t && goes_on_a_number a xs) || (a == 46 && is_digit_and_more xs)) d ∙ and_left (a == 46) (is_digit_and_more xs) e
 
 -- white space
@@ -60,7 +58,7 @@ blank_single : (a : ℕ) → is_blank_byte a ≡ true → is_single a ≡ false
 unfolding is_single
 blank_single a h = apart (32 ∷ 9 ∷ 11 ∷ 12 ∷ 13 ∷ []) (codes "[](){}.&*+-~!/%<>^|?:;=,#") a refl h
 
-letter_single : (a : ℕ) → starts_name a ≡ true → is_single a ≡ false
+pub letter_single : (a : ℕ) → starts_name a ≡ true → is_single a ≡ false
 unfolding is_single
 letter_single a h = grind (arith, nat_tests)
 
@@ -372,7 +370,7 @@ slash_puncts bs h g m l = slash_by (take m bs) ∙ ap (λ t. if t then Some Comm
 abbrev pub char_closing : List ℕ → Option ℕ
 char_closing bs = if starts_with 39 bs then None else closing 39 false bs
 
-char_at : (bs : List ℕ) (m : ℕ) → m ≤ length bs → (not (starts_with 39 (take m bs)) && is_elements_and 39 (take m bs)) ≡ is_at m (char_closing bs)
+pub char_at : (bs : List ℕ) (m : ℕ) → m ≤ length bs → (not (starts_with 39 (take m bs)) && is_elements_and 39 (take m bs)) ≡ is_at m (char_closing bs)
 char_at [] zero l = refl
 char_at [] (suc m) l = absurd (omega arith)
 char_at (b ∷ bs) zero l = by (b == 39) (closing 39 false (b ∷ bs)) (elements_at 39 refl refl (b ∷ bs) zero l)

@@ -1,20 +1,18 @@
 -- What is cut at the front, by the part that the code finds there.
-use Rattle.std.proofs.Common.{◌≡◌, ◌≢◌, ℕ, zero, suc, ◌+◌, ◌-◌, ◌<◌, ◌≤◌, ◌⊎◌, inl, inr, Bool, true, false, cond, List, [], ◌∷◌, length, take, drop, get_or, Option, Some, None, refl, ap, sym, ◌∙◌, subst, arith, codes}
-use Rattle.std.specs.Prelude.{◌==◌, if◌then◌else◌, nat_lt}
-use Rattle.std.proofs.lemmas.Bool.{cases_Bool, cases_lt, lt-ltb, le-ltb}
+use Rattle.std.proofs.Common.{◌≡◌, ℕ, zero, suc, ◌+◌, ◌-◌, ◌<◌, ◌≤◌, ◌⊎◌, inl, inr, true, false, cond, List, [], ◌∷◌, length, take, drop, get_or, None, refl, ap, sym, ◌∙◌, subst, arith, codes}
+use Rattle.std.proofs.lemmas.Bool.{cases_lt, lt-ltb, le-ltb}
 use Rattle.cr_base.specs.declared.token.PpKind.TheVariants.{Punct}
 use Rattle.cr_lex.specs.Spellings as spellings
 use Rattle.cr_lex.specs.Joins.{Cell, join_len, text_of, begins}
-use Rattle.cr_lex.specs.Lexing.{Before, Lexed, longest_part, by_part, piece, cut, stop, token, with_token, unless_trigraph, first_trigraph, end_of, OpenComment}
-use Rattle.cr_lex.specs.Scanning.{rest, cell_of, behind, IsByte, AreMarks, Unclosed, part_behind, upto, own_cells}
-use Rattle.cr_lex.specs.Scanning as scanning
+use Rattle.cr_lex.specs.Lexing.{Before, Lexed, longest_part, by_part, cut, stop, token, with_token, unless_trigraph, first_trigraph, end_of, OpenComment}
+use Rattle.cr_lex.specs.Scanning.{rest, cell_of, behind, AreMarks, Unclosed, upto, own_cells}
 use Rattle.cr_lex.specs.Standing.{in_line, found_gives}
 use Rattle.cr_lex.specs.declared.part.Marks.{Marks}
 use Rattle.cr_lex.specs.declared.part.Found.{Found}
 use Rattle.cr_lex.specs.declared.part.Found.TheVariants as found
 use Rattle.cr_lex.specs.declared.part.Part.{Part}
 use Rattle.cr_lex.proofs.Cells.{rest_byte, rest_join, rest_end, join_within}
-use Rattle.cr_lex.proofs.Marks.{Rising, sooner, rest_rises}
+use Rattle.cr_lex.proofs.Marks.{Rising, rest_rises}
 
 pub skip_cut : (before : Before) (n : ℕ) (cs : List Cell) → cut before n cs ≡ cut before zero (drop n cs)
 unfolding cut

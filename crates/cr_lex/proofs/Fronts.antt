@@ -1,10 +1,10 @@
 -- Which fronts of a text pass a test of its kind.
-use Rattle.std.proofs.Common.{◌≡◌, ℕ, zero, suc, ◌+◌, ◌-◌, ◌<◌, ◌≤◌, ◌⊎◌, inl, inr, Bool, true, false, not, ◌&&◌, ◌||◌, cond, List, [], ◌∷◌, length, map, take, Option, Some, None, Result, Ok, Err, refl, ap, sym, ◌∙◌, subst, arith}
+use Rattle.std.proofs.Common.{◌≡◌, ℕ, zero, suc, ◌+◌, ◌<◌, ◌≤◌, ◌⊎◌, inl, inr, Bool, true, false, not, ◌&&◌, cond, List, [], ◌∷◌, length, take, Option, Some, None, Ok, Err, refl, ap, sym, ◌∙◌, arith}
 use Rattle.std.specs.Prelude.{◌==◌, if◌then◌else◌}
 use Rattle.std.specs.List.{list_all}
 use Rattle.std.specs.Option.{option_map}
-use Rattle.std.proofs.lemmas.Bool.{cases_Bool, cases_eq, eq-eqb, ne_eqb, eqb-true, eqb-false}
-use Rattle.cr_lex.specs.Spellings.{is_empty, starts_with, goes_on_behind, goes_on_a_number, is_elements_and, is_up_to_end}
+use Rattle.std.proofs.lemmas.Bool.{cases_eq, eq-eqb, ne_eqb, eqb-true}
+use Rattle.cr_lex.specs.Spellings.{is_empty, goes_on_behind, goes_on_a_number, is_elements_and, is_up_to_end}
 use Rattle.cr_lex.specs.Joins.{Cell, text_of}
 use Rattle.cr_lex.specs.Scanning.{behind, run, run_end, number_run, number_end, closing, closed, ok, block, block_end}
 

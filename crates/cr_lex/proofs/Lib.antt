@@ -5,6 +5,9 @@ pub mod Fronts
 pub mod First
 pub mod Longest
 pub mod Classes
+pub mod Words
+pub mod Found
+pub mod Kinds
 pub mod Spots
 pub mod Plain
 pub mod Runs

@@ -1,15 +1,13 @@
 -- The longest front that is a part, by the tests that each front passes.
-use Rattle.std.proofs.Common.{◌≡◌, ℕ, zero, suc, ◌+◌, ◌-◌, ◌<◌, ◌≤◌, ◌⊎◌, inl, inr, Bool, true, false, not, ◌&&◌, ◌||◌, cond, List, [], ◌∷◌, length, map, take, Option, Some, None, refl, ap, sym, ◌∙◌, subst, arith, codes}
+use Rattle.std.proofs.Common.{◌≡◌, ℕ, zero, suc, ◌<◌, ◌≤◌, ◌⊎◌, inl, inr, Bool, true, false, ◌&&◌, ◌||◌, List, [], ◌∷◌, length, take, Option, Some, None, refl, ap, sym, ◌∙◌, arith, codes}
 use Rattle.std.specs.Prelude.{◌==◌, if◌then◌else◌}
-use Rattle.std.specs.List.{list_all, list_any}
+use Rattle.std.specs.List.{list_all}
 use Rattle.std.specs.Option.{option_map}
-use Rattle.std.proofs.lemmas.Bool.{cases_Bool, cases_lt, and_left, eqb-true}
-use Rattle.cr_base.specs.Names.{is_identifier, is_digit, is_word_byte, starts_name}
-use Rattle.cr_base.specs.declared.token.PpKind.{PpKind}
+use Rattle.std.proofs.lemmas.Bool.{cases_lt, and_left, eqb-true}
+use Rattle.cr_base.specs.Names.{is_identifier, is_word_byte, starts_name}
 use Rattle.cr_base.specs.declared.token.PpKind.TheVariants.{Ident, Number, Char, Str, Punct, Stray}
 use Rattle.cr_lex.specs.Spellings.{Part, Blank, LineEnd, Comment, Piece, part_of, token_kind, is_blank, is_blank_byte, is_line_end, is_comment, is_number, is_char, is_string, is_punctuator, is_empty, is_one_of}
 use Rattle.cr_lex.specs.Lexing.{longest, longest_part, or_shorter}
-use Rattle.cr_lex.proofs.Fronts.{is_at}
 
 longest_none : (n k : ℕ) (text : List ℕ) → k ≤ n → ((m : ℕ) → k < m → m ≤ n → part_of (take m text) ≡ None) → longest n text ≡ longest k text
 unfolding longest

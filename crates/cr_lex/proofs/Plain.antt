@@ -1,6 +1,6 @@
 -- Bytes without a join, and their lines.
-use Rattle.std.proofs.Common.{◌≡◌, ℕ, zero, suc, ◌+◌, ◌-◌, ◌<◌, ◌≤◌, cond, Bool, true, false, not, List, [], ◌∷◌, ◌++◌, map, length, get_or, take, drop, count_by, sum_by, refl, ap, sym, ◌∙◌, arith, take-add, length-take-le, length-take, length-drop}
-use Rattle.std.specs.Prelude.{◌==◌, nat_lt, if◌then◌else◌}
+use Rattle.std.proofs.Common.{◌≡◌, ℕ, zero, suc, ◌+◌, ◌-◌, ◌≤◌, cond, false, not, List, [], ◌∷◌, ◌++◌, length, get_or, take, drop, count_by, refl, ap, sym, ◌∙◌, arith, take-add, length-take-le, length-take, length-drop}
+use Rattle.std.specs.Prelude.{◌==◌}
 use Rattle.std.proofs.lemmas.Bool.{lt-ltb, le-ltb, eq-eqb}
 use Rattle.std.proofs.lemmas.List.{drop_more, length-map}
 use Rattle.std.proofs.lemmas.List.Sums.{sum_by-append, count_by-le-length}

@@ -1,14 +1,13 @@
 -- The tokens that a lexer gave, and what is left.
-use Rattle.std.proofs.Common.{◌≡◌, ◌+◌, ◌<◌, ◌≤◌, ℕ, zero, suc, Bool, true, false, cond, List, [], ◌∷◌, ◌++◌, None, Option, map, length, get_or, refl, ap, sym, ◌∙◌, subst, arith, append_assoc, append-nil, length-append, Some, ◌-◌, take}
+use Rattle.std.proofs.Common.{◌≡◌, ◌+◌, ◌≤◌, ℕ, zero, suc, Bool, true, false, cond, List, [], ◌∷◌, ◌++◌, None, Option, map, length, refl, ap, sym, ◌∙◌, subst, arith, append_assoc, append-nil, length-append, Some, ◌-◌, take}
 use Rattle.std.specs.Prelude.{bytes_eq}
 use Rattle.std.specs.List.{AllByRecursion, list_any}
 use Rattle.std.proofs.lemmas.List.{map-append, get_or_append_left}
 use Rattle.cr_base.specs.NameTable.{with_text}
 use Rattle.cr_base.specs.declared.token.PathNo.{PathNo}
 use Rattle.cr_base.specs.declared.token.PpTok.{PpTok}
-use Rattle.cr_base.specs.declared.token.Origin.TheVariants.{At}
 use Rattle.cr_lex.specs.Joins.{Cell, cells, joined_from, unless_joined, text_of, is_trigraph, line_after}
-use Rattle.cr_lex.specs.Lexing.{Token, Lexed, Fault, Before, cut, lexed, with_token, by_part, longest_part, unless_trigraph, first_trigraph, stop, token, at_start}
+use Rattle.cr_lex.specs.Lexing.{Lexed, Fault, Before, cut, lexed, with_token, by_part, longest_part, unless_trigraph, first_trigraph, stop, token, at_start}
 use Rattle.cr_lex.specs.Spellings.{Part, Blank, LineEnd, Comment, Piece}
 use Rattle.cr_lex.specs.Seen.{seen, IsOf, with_texts, first_of, Extends}
 

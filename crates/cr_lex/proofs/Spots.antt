@@ -1,5 +1,5 @@
 -- A place behind a part.
-use Rattle.std.proofs.Common.{◌≡◌, ◌∙◌, ◌+◌, ◌<◌, ◌≤◌, ℕ, zero, Bool, true, false, List, [], ◌∷◌, None, length, refl, ap, sym, subst, arith}
+use Rattle.std.proofs.Common.{◌≡◌, ◌∙◌, ◌<◌, ◌≤◌, ℕ, zero, Bool, true, false, List, [], ◌∷◌, None, length, refl, ap, sym, subst, arith}
 use Rattle.cr_lex.specs.Joins.{Cell}
 use Rattle.cr_lex.specs.Lexing.{Before, Token, token, with_token, unless_trigraph, first_trigraph, cut, lexed}
 use Rattle.cr_lex.specs.Scanning.{AreMarks, Unclosed, rest, cell_of, own_cells}

@@ -249,3 +249,9 @@ upto end (c ∷ cs) = if nat_lt c.at end then c ∷ upto end cs else []
 -- the cells from one offset up to another
 abbrev pub own_cells : List ℕ → ℕ → ℕ → List Cell
 own_cells bytes at end = upto end (rest bytes at)
+
+-- the kind of a part that is a token, where it is whole
+abbrev pub whole_kind : Bool → Found → Option PpKind
+whole_kind whole (found.Piece Stray) = None
+whole_kind whole (found.Piece kind) = if whole then Some kind else None
+whole_kind whole _ = None

@@ -1,5 +1,5 @@
 -- The tokens and faults of the code as those of the definition.
-use Rattle.std.specs.Prelude.{ℕ, zero, ◌≡◌, ◌<◌, List, [], ◌∷◌, ◌++◌, length, slice_index_or, None}
+use Rattle.std.specs.Prelude.{ℕ, ◌≡◌, ◌<◌, List, [], ◌∷◌, ◌++◌, length, slice_index_or, None}
 use Rattle.cr_base.specs.NameTable.{with_text}
 use Rattle.cr_base.specs.declared.token.PathNo.{PathNo}
 use Rattle.cr_base.specs.declared.token.Place.{Place}

@@ -1,5 +1,5 @@
 -- Where a lexer stands in a file, and what it still gives.
-use Rattle.std.specs.Prelude.{ℕ, zero, ◌≡◌, ◌<◌, ◌≤◌, ◌+◌, false, true, List, [], length, drop, None}
+use Rattle.std.specs.Prelude.{ℕ, zero, ◌≡◌, ◌<◌, ◌≤◌, false, true, List, [], length, drop, None}
 use Rattle.cr_lex.specs.Joins.{join_len}
 use Rattle.cr_lex.specs.Lexing.{Before, Lexed, cut, stop, token, with_token, unless_trigraph, first_trigraph, end_of}
 use Rattle.cr_lex.specs.Lexing as lexing

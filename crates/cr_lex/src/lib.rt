@@ -1,8 +1,9 @@
-//! From the bytes of a file to preprocessing tokens.
+//! From the bytes of a file to preprocessing tokens (C11 5.1.1.2, phases 1 to 3; 6.4).
 #![tactic(auto)]
 
 mod cell;
 mod fault;
+mod kind;
 mod lexer;
 mod literal;
 mod part;
@@ -12,3 +13,5 @@ mod spot;
 mod text;
 
 pub use fault::{LexFault, LexStep, Lexed};
+pub use kind::token_kind;
+pub use lexer::{Lexer, lex};

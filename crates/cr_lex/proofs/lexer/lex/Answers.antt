@@ -1,4 +1,4 @@
-use Rattle.std.proofs.Common.{◌∙◌, subst, sym, ap}
+use Rattle.std.proofs.Common.{◌∙◌, subst, sym}
 use Rattle.cr_lex.specs.Lexers.{left}
 use Rattle.cr_lex.specs.Seen.{IsStep, IsOf}
 use Rattle.cr_lex.proofs.Runs.{IsRun, first_run, one_more}

@@ -1,4 +1,4 @@
-use Rattle.std.proofs.Common.{◌≡◌, ◌+◌, ◌≤◌, ◌∙◌, ap, subst, arith}
+use Rattle.std.proofs.Common.{subst, arith}
 use Rattle.cr_base.specs.NameTable.{Interns}
 use Rattle.cr_lex.proofs.Plain.{plain_is, not_joined}
 use Rattle.cr_lex.proofs.lexer.name_of.Goals as goal

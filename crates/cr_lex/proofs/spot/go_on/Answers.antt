@@ -1,4 +1,4 @@
-use Rattle.std.proofs.Common.{◌≡◌, ◌∙◌, ap, sym, arith}
+use Rattle.std.proofs.Common.{◌∙◌, ap, sym, arith}
 use Rattle.cr_lex.specs.Lexing.{cut}
 use Rattle.cr_lex.specs.Standing.{left_at, before, found_gives}
 use Rattle.cr_lex.proofs.First.{cut_none}

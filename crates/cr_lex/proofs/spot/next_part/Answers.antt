@@ -1,9 +1,9 @@
-use Rattle.std.proofs.Common.{◌≡◌, ◌+◌, ◌∙◌, ap}
+use Rattle.std.proofs.Common.{◌+◌, ◌∙◌, ap}
 use Rattle.cr_lex.specs.Lexing.{cut}
 use Rattle.cr_lex.specs.Scanning.{rest}
 use Rattle.cr_lex.specs.Standing.{left_at, before}
 use Rattle.cr_lex.proofs.First.{found_next, own_ends, marks_behind}
-use Rattle.cr_lex.proofs.Longest.{found_is_first}
+use Rattle.cr_lex.proofs.Found.{found_is_first}
 use Rattle.cr_lex.proofs.spot.next_part.Goals as goal
 
 pub returns-clause-gives : goal.returns-clause-gives

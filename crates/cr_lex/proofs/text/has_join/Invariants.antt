@@ -1,4 +1,3 @@
-use Rattle.std.proofs.Common.{length, ◌-◌, ◌≡◌, ◌≤◌, ◌++◌}
 use Rattle.cr_lex.specs.Standing.{IsPlain}
 use Rattle.cr_lex.proofs.text.has_join.Given as goal
 
