@@ -2,11 +2,11 @@
 use Rattle.std.proofs.Common.{◌≡◌, ℕ, zero, suc, ◌<◌, ◌≤◌, ◌⊎◌, inl, inr, Bool, true, false, not, ◌&&◌, ◌||◌, cond, List, [], ◌∷◌, length, take, Option, Some, None, refl, ap, sym, ◌∙◌, arith, codes}
 use Rattle.std.specs.Prelude.{◌==◌, if◌then◌else◌}
 use Rattle.std.specs.List.{list_all}
-use Rattle.std.proofs.lemmas.Bool.{cases_eq, and_left, eqb-true, eq-eqb, ne_eqb}
+use Rattle.std.proofs.lemmas.Bool.{and_parts, or_cases, cases_eq, and_left, eqb-true, eq-eqb, ne_eqb}
 use Rattle.std.proofs.lemmas.Bool.Decides.{nat_tests}
-use Rattle.cr_base.specs.Names.{is_digit, starts_name}
+use Rattle.cr_base.specs.Names.{is_identifier, is_digit, starts_name}
 use Rattle.cr_base.specs.declared.token.PpKind.TheVariants.{Number, Char, Str, Punct, Stray}
-use Rattle.cr_lex.specs.Spellings.{Part, Blank, LineEnd, Comment, Piece, part_of, is_blank_byte, is_comment, is_number, is_char, is_string, is_punctuator, is_pair, is_triple, is_empty, is_one_of, starts_with, is_quoted, is_quoted_char, is_elements_and, is_behind_u8, goes_on_a_number, is_digit_and_more, is_up_to_end}
+use Rattle.cr_lex.specs.Spellings.{is_blank, is_line_end, Part, Blank, LineEnd, Comment, Piece, part_of, token_kind, is_blank_byte, is_comment, is_number, is_char, is_string, is_punctuator, is_pair, is_triple, is_empty, is_one_of, starts_with, is_quoted, is_quoted_char, is_elements_and, is_behind_u8, goes_on_a_number, is_digit_and_more, is_up_to_end}
 use Rattle.cr_lex.specs.Lexing.{longest_part}
 use Rattle.cr_lex.specs.Scanning.{run, number_run, closing, block, is_quote, is_wide, is_not_line_feed}
 use Rattle.cr_lex.proofs.Fronts.{run_in, run_out, run_fits, number_in, number_out, number_fits, is_at, elements_at, closing_fits, up_to_end_at, block_fits}
@@ -69,9 +69,9 @@ digit_single a h = grind (arith, nat_tests)
 blank_by : (a : ℕ) (xs : List ℕ) → is_blank_byte a ≡ true → part_of (a ∷ xs) ≡ (if is_empty xs then Some Blank else None)
 blank_by a xs h =
     part_by (a ∷ xs) (ap (λ t. t && is_empty xs) h)
-      (miss_end a xs (grind (arith, nat_tests))) (miss_comment a xs (grind (arith, nat_tests))) (miss_ident a xs (grind (arith, nat_tests)))
-      (miss_number a xs (grind (arith, nat_tests)) (grind (arith, nat_tests))) (miss_char a xs (blank_plain a h)) (miss_string a xs (blank_plain a h))
-      (miss_punct a xs (blank_single a h))
+    (miss_end a xs (grind (arith, nat_tests))) (miss_comment a xs (grind (arith, nat_tests))) (miss_ident a xs (grind (arith, nat_tests)))
+    (miss_number a xs (grind (arith, nat_tests)) (grind (arith, nat_tests))) (miss_char a xs (blank_plain a h)) (miss_string a xs (blank_plain a h))
+    (miss_punct a xs (blank_single a h))
 
 -- a part of one byte
 single_part : (a : ℕ) (bs : List ℕ) (part : Part) → ((xs : List ℕ) → part_of (a ∷ xs) ≡ (if is_empty xs then Some part else None)) → longest_part (a ∷ bs) ≡ (1, part)
@@ -95,8 +95,8 @@ double_is = refl
 end_by : (xs : List ℕ) → part_of (10 ∷ xs) ≡ (if is_empty xs then Some LineEnd else None)
 end_by xs =
     part_by (10 ∷ xs) refl refl (miss_comment 10 xs refl) refl refl
-      (miss_char 10 xs (record { char = refl; string = refl; wide = refl; u = refl })) (miss_string 10 xs (record { char = refl; string = refl; wide = refl; u = refl }))
-      (miss_punct 10 xs end_is)
+    (miss_char 10 xs (record { char = refl; string = refl; wide = refl; u = refl })) (miss_string 10 xs (record { char = refl; string = refl; wide = refl; u = refl }))
+    (miss_punct 10 xs end_is)
 
 pub longest_end : (bs : List ℕ) → longest_part (10 ∷ bs) ≡ (1, LineEnd)
 longest_end bs = single_part 10 bs LineEnd end_by
@@ -113,14 +113,16 @@ digit_plain a h = record { char = grind (arith, nat_tests); string = grind (arit
 digit_by : (a : ℕ) (xs : List ℕ) → is_digit a ≡ true → part_of (a ∷ xs) ≡ (if goes_on_a_number a xs then Some (Piece Number) else None)
 digit_by a xs h =
     part_by (a ∷ xs) (miss_blank a xs (grind (arith, nat_tests)))
-      (miss_end a xs (grind (arith, nat_tests))) (miss_comment a xs (grind (arith, nat_tests))) (miss_ident a xs (grind (arith, nat_tests)))
-      number (miss_char a xs (digit_plain a h)) (miss_string a xs (digit_plain a h)) (miss_punct a xs (digit_single a h))
+    (miss_end a xs (grind (arith, nat_tests))) (miss_comment a xs (grind (arith, nat_tests))) (miss_ident a xs (grind (arith, nat_tests)))
+    number (miss_char a xs (digit_plain a h)) (miss_string a xs (digit_plain a h)) (miss_punct a xs (digit_single a h))
     ∙ by (goes_on_a_number a xs)
   where
     dot : (a == 46) ≡ false
     dot = grind (arith, nat_tests)
+
     number : is_number (a ∷ xs) ≡ goes_on_a_number a xs
     number = ap (λ t. (t && goes_on_a_number a xs) || (a == 46 && is_digit_and_more xs)) h ∙ ap (λ t. goes_on_a_number a xs || (t && is_digit_and_more xs)) dot ∙ or_no (goes_on_a_number a xs)
+
     by : (t : Bool) → decided false false false false t false false false ≡ (if t then Some (Piece Number) else None)
     by true = refl
     by false = refl
@@ -128,8 +130,8 @@ digit_by a xs h =
 pub longest_number : (a : ℕ) (bs : List ℕ) → is_digit a ≡ true → longest_part (a ∷ bs) ≡ (suc (number_run a bs), Piece Number)
 longest_number a bs h =
     longest_is a bs (number_run a bs) (Piece Number) (number_fits a bs)
-      (digit_by a (take (number_run a bs) bs) h ∙ ap (λ t. if t then Some (Piece Number) else None) (number_in a bs (number_run a bs) (omega arith)))
-      (λ m l g. digit_by a (take m bs) h ∙ ap (λ t. if t then Some (Piece Number) else None) (number_out a bs m l g))
+    (digit_by a (take (number_run a bs) bs) h ∙ ap (λ t. if t then Some (Piece Number) else None) (number_in a bs (number_run a bs) (omega arith)))
+    (λ m l g. digit_by a (take m bs) h ∙ ap (λ t. if t then Some (Piece Number) else None) (number_out a bs m l g))
 
 -- punctuators
 
@@ -209,10 +211,13 @@ longest_punct a bs h = by (quad_at a bs) (triple_at a bs) (pair_at a bs) (is_sin
   where
     pick : Bool → Option Part
     pick t = if t then Some (Piece Punct) else None
+
     miss : (m : ℕ) → m ≤ length bs → is_punctuator (a ∷ take m bs) ≡ false → part_of (a ∷ take m bs) ≡ None
     miss m l e = h m l ∙ ap (λ t. if t then Some (Piece Punct) else None) e
+
     hit : (m : ℕ) → m ≤ length bs → is_punctuator (a ∷ take m bs) ≡ true → part_of (a ∷ take m bs) ≡ Some (Piece Punct)
     hit m l e = h m l ∙ ap (λ t. if t then Some (Piece Punct) else None) e
+
     by : (q t p s : Bool) → quad_at a bs ≡ q → triple_at a bs ≡ t → pair_at a bs ≡ p → is_single a ≡ s → longest_part (a ∷ bs) ≡ punct_or_stray q t p s
     by true t p s eq et ep es = longest_is a bs 3 (Piece Punct) (long3 a bs eq) (hit 3 (long3 a bs eq) (at3 a bs (long3 a bs eq) ∙ eq)) (λ m l g. miss m g (many a m bs l g))
     by false true p s eq et ep es = longest_is a bs 2 (Piece Punct) (long2 a bs et) (hit 2 (long2 a bs et) (at2 a bs (long2 a bs et) ∙ et)) (λ m l g. miss m g (above2 a m bs eq l g))
@@ -232,6 +237,7 @@ other_puncts a bs bl le co nm dg dt q m l =
   where
     plain : IsPlainByte a
     plain = record { char = grind (arith, nat_tests); string = grind (arith, nat_tests); wide = grind (arith, nat_tests); u = grind (arith, nat_tests) }
+
     by : (t : Bool) → decided false false false false false false false t ≡ (if t then Some (Piece Punct) else None)
     by true = refl
     by false = refl
@@ -263,8 +269,8 @@ dot_digit b (c ∷ d ∷ e ∷ xs) h = refl
 pub longest_dot_number : (b : ℕ) (bs : List ℕ) → is_digit b ≡ true → longest_part (46 ∷ b ∷ bs) ≡ (suc (suc (number_run b bs)), Piece Number)
 longest_dot_number b bs h =
     longest_is 46 (b ∷ bs) (suc (number_run b bs)) (Piece Number) (omega (arith, number_fits b bs))
-      (dot_by (b ∷ take (number_run b bs) bs) ∙ ap (λ t. if t then Some (Piece Number) else if is_punctuator (46 ∷ b ∷ take (number_run b bs) bs) then Some (Piece Punct) else None) (ap (λ t. t && goes_on_a_number b (take (number_run b bs) bs)) h ∙ number_in b bs (number_run b bs) (omega arith)))
-      out
+    (dot_by (b ∷ take (number_run b bs) bs) ∙ ap (λ t. if t then Some (Piece Number) else if is_punctuator (46 ∷ b ∷ take (number_run b bs) bs) then Some (Piece Punct) else None) (ap (λ t. t && goes_on_a_number b (take (number_run b bs) bs)) h ∙ number_in b bs (number_run b bs) (omega arith)))
+    out
   where
     out : (m : ℕ) → suc (number_run b bs) < m → m ≤ length (b ∷ bs) → part_of (46 ∷ take m (b ∷ bs)) ≡ None
     out zero l g = absurd (omega arith)
@@ -328,8 +334,8 @@ slash_alone = slash_by []
 pub longest_block : (bs : List ℕ) (n : ℕ) → block false bs ≡ Some n → longest_part (47 ∷ 42 ∷ bs) ≡ (suc (suc n), Comment)
 longest_block bs n e =
     longest_is 47 (42 ∷ bs) (suc n) Comment (omega (arith, block_fits false bs n e))
-      (block_by n bs (block_fits false bs n e) ∙ ap (λ o. if is_at n o then Some Comment else None) e ∙ ap (λ t. if t then Some Comment else None) (eq-eqb n n refl))
-      out
+    (block_by n bs (block_fits false bs n e) ∙ ap (λ o. if is_at n o then Some Comment else None) e ∙ ap (λ t. if t then Some Comment else None) (eq-eqb n n refl))
+    out
   where
     out : (m : ℕ) → suc n < m → m ≤ length (42 ∷ bs) → part_of (47 ∷ take m (42 ∷ bs)) ≡ None
     out zero l g = absurd (omega arith)
@@ -349,8 +355,8 @@ line_by xs =
 pub longest_line : (bs : List ℕ) → longest_part (47 ∷ 47 ∷ bs) ≡ (suc (suc (run is_not_line_feed bs)), Comment)
 longest_line bs =
     longest_is 47 (47 ∷ bs) (suc (run is_not_line_feed bs)) Comment (omega (arith, run_fits is_not_line_feed bs))
-      (line_by (take (run is_not_line_feed bs) bs) ∙ ap (λ t. if t then Some Comment else None) (run_in is_not_line_feed bs (run is_not_line_feed bs) (omega arith)))
-      out
+    (line_by (take (run is_not_line_feed bs) bs) ∙ ap (λ t. if t then Some Comment else None) (run_in is_not_line_feed bs (run is_not_line_feed bs) (omega arith)))
+    out
   where
     out : (m : ℕ) → suc (run is_not_line_feed bs) < m → m ≤ length (47 ∷ bs) → part_of (47 ∷ take m (47 ∷ bs)) ≡ None
     out zero l g = absurd (omega arith)
@@ -394,15 +400,16 @@ char_fits bs n e = by (starts_with 39 bs) e
 -- a text that is a part at one length alone
 one_length : (a : ℕ) (bs : List ℕ) (part : Part) (o : Option ℕ) → ((n : ℕ) → o ≡ Some n → n ≤ length bs) → ((m : ℕ) → m ≤ length bs → part_of (a ∷ take m bs) ≡ (if is_at m o then Some part else None))
     → ((n : ℕ) → o ≡ Some n → longest_part (a ∷ bs) ≡ (suc n, part)) × (o ≡ None → longest_part (a ∷ bs) ≡ (1, Piece Stray))
-one_length a bs part o fits h =
-    ((λ n e. longest_is a bs n part (fits n e) (h n (fits n e) ∙ ap (λ o. if is_at n o then Some part else None) e ∙ ap (λ t. if t then Some part else None) (eq-eqb n n refl))
+one_length a bs part o fits h = (
+  (λ n e. longest_is a bs n part (fits n e) (h n (fits n e) ∙ ap (λ o. if is_at n o then Some part else None) e ∙ ap (λ t. if t then Some part else None) (eq-eqb n n refl))
       (λ m l g. h m g ∙ ap (λ o. if is_at m o then Some part else None) e ∙ ap (λ t. if t then Some part else None) (ne_eqb n m (λ k. omega arith)))),
-    (λ e. stray_is a bs (λ m l. h m l ∙ ap (λ o. if is_at m o then Some part else None) e)))
+  (λ e. stray_is a bs (λ m l. h m l ∙ ap (λ o. if is_at m o then Some part else None) e)),
+)
 
 single_by : (m : ℕ) (bs : List ℕ) → m ≤ length bs → part_of (39 ∷ take m bs) ≡ (if is_at m (char_closing bs) then Some (Piece Char) else None)
 single_by m bs l =
     part_by (39 ∷ take m bs) refl refl (miss_comment 39 (take m bs) refl) refl refl (or_false (not (starts_with 39 (take m bs)) && is_elements_and 39 (take m bs)) ∙ char_at bs m l)
-      (ap (λ t. t) (miss_u8 39 (take m bs) refl)) (miss_punct 39 (take m bs) quote_is)
+    (ap (λ t. t) (miss_u8 39 (take m bs) refl)) (miss_punct 39 (take m bs) quote_is)
     ∙ by (is_at m (char_closing bs))
   where
     by : (t : Bool) → decided false false false false false t false false ≡ (if t then Some (Piece Char) else None)
@@ -412,8 +419,8 @@ single_by m bs l =
 double_by : (m : ℕ) (bs : List ℕ) → m ≤ length bs → part_of (34 ∷ take m bs) ≡ (if is_at m (closing 34 false bs) then Some (Piece Str) else None)
 double_by m bs l =
     part_by (34 ∷ take m bs) refl refl (miss_comment 34 (take m bs) refl) refl refl refl
-      (ap (λ t. (is_elements_and 34 (take m bs) || false) || t) (miss_u8 34 (take m bs) refl) ∙ or_false (is_elements_and 34 (take m bs) || false) ∙ or_false (is_elements_and 34 (take m bs)) ∙ elements_at 34 refl refl bs m l)
-      (miss_punct 34 (take m bs) double_is)
+    (ap (λ t. (is_elements_and 34 (take m bs) || false) || t) (miss_u8 34 (take m bs) refl) ∙ or_false (is_elements_and 34 (take m bs) || false) ∙ or_false (is_elements_and 34 (take m bs)) ∙ elements_at 34 refl refl bs m l)
+    (miss_punct 34 (take m bs) double_is)
     ∙ by (is_at m (closing 34 false bs))
   where
     by : (t : Bool) → decided false false false false false false t false ≡ (if t then Some (Piece Str) else None)
@@ -425,3 +432,41 @@ longest_single bs = one_length 39 bs (Piece Char) (char_closing bs) (char_fits b
 
 pub longest_double : (bs : List ℕ) → ((n : ℕ) → closing 34 false bs ≡ Some n → longest_part (34 ∷ bs) ≡ (suc n, Piece Str)) × (closing 34 false bs ≡ None → longest_part (34 ∷ bs) ≡ (1, Piece Stray))
 longest_double bs = one_length 34 bs (Piece Str) (closing 34 false bs) (closing_fits 34 false bs) (λ m l. double_by m bs l)
+
+-- white space is no token
+
+kind_by : (text : List ℕ) → is_identifier text ≡ false → is_number text ≡ false → is_char text ≡ false → is_string text ≡ false → is_punctuator text ≡ false → token_kind text ≡ None
+unfolding token_kind
+kind_by text i n c s p = rw (i, n, c, s, p) refl
+
+pub token_blank : (text : List ℕ) → is_blank text ≡ true → token_kind text ≡ None
+token_blank [] h = cc
+token_blank (a ∷ xs) h =
+    let b : is_blank_byte a ≡ true = (and_parts (is_blank_byte a) (is_empty xs) h).0 in
+    kind_by (a ∷ xs) (miss_ident a xs (letter a b)) (miss_number a xs (digit a b) (dot a b)) (miss_char a xs (blank_plain a b)) (miss_string a xs (blank_plain a b)) (miss_punct a xs (blank_single a b))
+  where
+    letter : (a : ℕ) → is_blank_byte a ≡ true → starts_name a ≡ false
+    letter a h = grind (arith, nat_tests)
+
+    digit : (a : ℕ) → is_blank_byte a ≡ true → is_digit a ≡ false
+    digit a h = grind (arith, nat_tests)
+
+    dot : (a : ℕ) → is_blank_byte a ≡ true → (a == 46) ≡ false
+    dot a h = grind (arith, nat_tests)
+
+pub token_end : (text : List ℕ) → is_line_end text ≡ true → token_kind text ≡ None
+token_end [] h = cc
+token_end (a ∷ xs) h = ap (λ x. token_kind (x ∷ xs)) (eqb-true a 10 (and_parts (a == 10) (is_empty xs) h).0)
+    ∙ kind_by (10 ∷ xs) refl refl (miss_char 10 xs (record { char = refl; string = refl; wide = refl; u = refl })) (miss_string 10 xs (record { char = refl; string = refl; wide = refl; u = refl })) (miss_punct 10 xs end_is)
+
+pub token_comment : (text : List ℕ) → is_comment text ≡ true → token_kind text ≡ None
+token_comment [] h = cc
+token_comment (a ∷ []) h = cc
+token_comment (a ∷ b ∷ xs) h =
+    let p = and_parts (a == 47) ((b == 42 && is_up_to_end xs) || (b == 47 && list_all is_not_line_feed xs)) h in
+    ap (λ x. token_kind (x ∷ b ∷ xs)) (eqb-true a 47 p.0)
+    ∙ kind_by (47 ∷ b ∷ xs) refl refl (miss_char 47 (b ∷ xs) slash_plain) (miss_string 47 (b ∷ xs) slash_plain) (punct (or_cases (b == 42 && is_up_to_end xs) (b == 47 && list_all is_not_line_feed xs) p.1))
+  where
+    punct : ((b == 42 && is_up_to_end xs) ≡ true) ⊎ ((b == 47 && list_all is_not_line_feed xs) ≡ true) → is_punctuator (47 ∷ b ∷ xs) ≡ false
+    punct (inl e) = ap (λ x. is_punctuator (47 ∷ x ∷ xs)) (eqb-true b 42 (and_parts (b == 42) (is_up_to_end xs) e).0) ∙ slash_star xs
+    punct (inr e) = ap (λ x. is_punctuator (47 ∷ x ∷ xs)) (eqb-true b 47 (and_parts (b == 47) (list_all is_not_line_feed xs) e).0) ∙ slash_slash xs

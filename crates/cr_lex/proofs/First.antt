@@ -44,6 +44,7 @@ rest_next (suc n) bytes from c cs size e = by (cases_lt from (length bytes)) (λ
         let fits = join_within bytes from (suc k) lt j in
         let over = rest_join bytes from (suc k) lt j (λ z. cc) fits in
         ih (from + suc k) (omega arith) (over ∙ e)
+
     by : (from < length bytes) ⊎ (length bytes ≤ from) → ((k : ℕ) → length bytes - k ≤ n → rest bytes k ≡ c ∷ cs → (cs ≡ rest bytes (c.at + 1)) × (c.at < length bytes)) → (cs ≡ rest bytes (c.at + 1)) × (c.at < length bytes)
     by (inr past) ih = let none = rest_end bytes from past in cc
     by (inl lt) ih = joined lt (join_len (drop from bytes)) refl ih
@@ -132,6 +133,6 @@ unclosed_behind bytes q limit k from h = subst (Unclosed q limit) (sym (rest_beh
 
 pub marks_behind : (bytes : List ℕ) (k from end : ℕ) (marks : Marks) → end ≡ behind k from (rest bytes from) → AreMarks bytes from marks → AreMarks bytes end marks
 marks_behind bytes k from end marks e h = record {
-    char = subst (λ n. Unclosed 39 marks.char (rest bytes n)) (sym e) (unclosed_behind bytes 39 marks.char k from h.char);
-    string = subst (λ n. Unclosed 34 marks.string (rest bytes n)) (sym e) (unclosed_behind bytes 34 marks.string k from h.string);
-  }
+  char = subst (λ n. Unclosed 39 marks.char (rest bytes n)) (sym e) (unclosed_behind bytes 39 marks.char k from h.char);
+  string = subst (λ n. Unclosed 34 marks.string (rest bytes n)) (sym e) (unclosed_behind bytes 34 marks.string k from h.string);
+}

@@ -54,15 +54,18 @@ punct_first a from cs h o =
   where
     gives : Option ℕ → Bool → Part
     gives o s = unwrap_or (option_map (part (found.Piece Punct)) o) (part (cond s (found.Piece Punct) (found.Piece Stray)) from)
+
     chosen : Bool → Bool → Bool → Bool → Part
     chosen q t p s =
         unwrap_or (option_map (part (found.Piece Punct)) (or_else (if q then Some (behind 3 from cs) else None) (or_else (if t then Some (behind 2 from cs) else None) (if p then Some (behind 1 from cs) else None))))
-          (part (if s then found.Piece Punct else found.Piece Stray) from)
+        (part (if s then found.Piece Punct else found.Piece Stray) from)
+
     same : punct_part a from cs ≡ unwrap_or (option_map (part (found.Piece Punct)) (or_else (if quad_at a (text_of cs) then Some (behind 3 from cs) else None) (or_else (if triple_at a (text_of cs) then Some (behind 2 from cs) else None) (if pair_at a (text_of cs) then Some (behind 1 from cs) else None)))) (part (single_found a) from)
     same =
         ap (λ x. unwrap_or (option_map (part (found.Piece Punct)) (or_else x (or_else (triple_end a cs) (pair_end a cs)))) (part (single_found a) from)) (quad_cells a from cs)
         ∙ ap (λ x. unwrap_or (option_map (part (found.Piece Punct)) (or_else (if quad_at a (text_of cs) then Some (behind 3 from cs) else None) (or_else x (pair_end a cs)))) (part (single_found a) from)) (triple_cells a from cs)
         ∙ ap (λ x. unwrap_or (option_map (part (found.Piece Punct)) (or_else (if quad_at a (text_of cs) then Some (behind 3 from cs) else None) (or_else (if triple_at a (text_of cs) then Some (behind 2 from cs) else None) x))) (part (single_found a) from)) (pair_cells a from cs)
+
     by : (q t p s : Bool) → longest_part (a ∷ text_of cs) ≡ punct_or_stray q t p s
         → IsFirst a from cs (unwrap_or (option_map (part (found.Piece Punct)) (or_else (if q then Some (behind 3 from cs) else None) (or_else (if t then Some (behind 2 from cs) else None) (if p then Some (behind 1 from cs) else None)))) (part (if s then found.Piece Punct else found.Piece Stray) from))
     by true t p s l = token_first a from 3 _ cs Punct refl l o
@@ -162,6 +165,7 @@ module _ (a from : ℕ) (h : starts_name a ≡ true) where
     where
       spelled : a ∷ c.byte ∷ d.byte ∷ text_of cs ≡ 117 ∷ 56 ∷ 34 ∷ text_of cs
       spelled = cc
+
       by : (o : Option ℕ) → closing 34 false (text_of cs) ≡ o → IsFirst a from (c ∷ d ∷ cs) (or_ident (c ∷ d ∷ cs) (option_map (part (found.Piece Str)) (option_map (λ n. behind n (d.at + 1) cs) o)))
       by None e = ident_first (c ∷ d ∷ cs) (subst (λ x. HasNoLiteral x (text_of (c ∷ d ∷ cs))) (sym u) (subst (λ bs. HasNoLiteral 117 bs) (sym same) (no_u8 (text_of cs) e)))
         where
@@ -208,6 +212,7 @@ module _ (a from : ℕ) (h : starts_name a ≡ true) where
       plain : (t : Bool) → (a == 117) ≡ t → is_wide a ≡ false → (a == 117) ≡ false
       plain true u w = let bad : true ≡ false = sym (ap is_wide (eqb-true a 117 u)) ∙ w in cc
       plain false u w = u
+
       by : (w s d : Bool) → is_wide a ≡ w → (c.byte == 39) ≡ s → (c.byte == 34) ≡ d
           → IsFirst a from (c ∷ cs) (or_ident (c ∷ cs) (if w && (s || d) then (if s then char_part (c.at + 1) cs else if d then string_part (c.at + 1) cs else None) else if a == 117 && c.byte == 56 then u8_part cs else None))
       by true true d ew es ed = wide_char_first c cs ew (eqb-true c.byte 39 es)
@@ -215,7 +220,7 @@ module _ (a from : ℕ) (h : starts_name a ≡ true) where
       by true false false ew es ed = eight_first c cs (a == 117) (c.byte == 56) es ed refl refl
       by false s d ew es ed =
           subst (λ t. IsFirst a from (c ∷ cs) (or_ident (c ∷ cs) (if t && c.byte == 56 then u8_part cs else None))) (sym (plain (a == 117) refl ew))
-            (ident_first (c ∷ cs) (no_prefix a (text_of (c ∷ cs)) ew (plain (a == 117) refl ew)))
+          (ident_first (c ∷ cs) (no_prefix a (text_of (c ∷ cs)) ew (plain (a == 117) refl ew)))
 
 pub part_is_first : (a from : ℕ) (cs : List Cell) → IsFirst a from cs (part_behind a from cs)
 part_is_first a from cs = by (is_blank_byte a) (a == 10) (starts_name a) (is_digit a) (a == 46) (is_quote a) (a == 47) refl refl refl refl refl refl refl
@@ -223,6 +228,7 @@ part_is_first a from cs = by (is_blank_byte a) (a == 10) (starts_name a) (is_dig
     quote : (t : Bool) → (a == 39) ≡ t → is_quote a ≡ true → IsFirst a from cs (quote_part a from cs)
     quote true e q = subst (λ x. IsFirst x from cs (quote_part x from cs)) (sym (eqb-true a 39 e)) (single_first from cs)
     quote false e q = subst (λ x. IsFirst x from cs (quote_part x from cs)) (sym (eqb-true a 34 (sym (ap (λ t. t || a == 34) e) ∙ q))) (double_first from cs)
+
     by : (bl le nm dg dt q sl : Bool) → is_blank_byte a ≡ bl → (a == 10) ≡ le → starts_name a ≡ nm → is_digit a ≡ dg → (a == 46) ≡ dt → is_quote a ≡ q → (a == 47) ≡ sl
         → IsFirst a from cs (if bl then part found.Space from else if le then part found.LineEnd from else if nm then word_part a from cs else if dg then part (found.Piece Number) (number_end a from cs) else if dt then dot_part from cs else if q then quote_part a from cs else if sl then slash_part from cs else punct_part a from cs)
     by true le nm dg dt q sl e1 e2 e3 e4 e5 e6 e7 = space_first a from 0 from cs refl (inl (longest_blank a (text_of cs) e1))

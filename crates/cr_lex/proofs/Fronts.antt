@@ -127,13 +127,14 @@ body_of q f g (a ∷ []) = by (a == q) (a == 10) (λ e k. let same : q ≡ 10 = 
     by false false h = refl
 body_of q f g (a ∷ b ∷ bs) =
     by (a == 92) (a == q) (a == 10)
-      (λ e k. let same : q ≡ 92 = sym (eqb-true a q k) ∙ eqb-true a 92 e in sym (eq-eqb q 92 same) ∙ g)
-      (λ e k. let same : 92 ≡ 10 = sym (eqb-true a 92 e) ∙ eqb-true a 10 k in absurd (omega arith))
-      (body_of q f g bs) (body_of q f g (b ∷ bs))
+    (λ e k. let same : q ≡ 92 = sym (eqb-true a q k) ∙ eqb-true a 92 e in sym (eq-eqb q 92 same) ∙ g)
+    (λ e k. let same : 92 ≡ 10 = sym (eqb-true a 92 e) ∙ eqb-true a 10 k in absurd (omega arith))
+    (body_of q f g bs) (body_of q f g (b ∷ bs))
   where
     pass : (v : Bool) → is_elements_and q bs ≡ body q false bs → (not v && is_elements_and q bs) ≡ cond v false (body q false bs)
     pass true i = refl
     pass false i = i
+
     by : (s t u : Bool) → (s ≡ true → t ≡ true → true ≡ false) → (s ≡ true → u ≡ true → true ≡ false) → is_elements_and q bs ≡ body q false bs → is_elements_and q (b ∷ bs) ≡ body q false (b ∷ bs)
         → cond s (not (b == 10) && is_elements_and q bs) (not t && not u && is_elements_and q (b ∷ bs)) ≡ cond u false (cond t false (body q s (b ∷ bs)))
     by true true u h k i j = let bad : true ≡ false = h refl refl in cc
@@ -171,6 +172,7 @@ closing_fits q escaped (b ∷ bs) n e = by (b == 10) (not escaped && b == q) e (
     one : (o : Option ℕ) → option_map suc o ≡ Some n → ((k : ℕ) → o ≡ Some k → k ≤ length bs) → n ≤ length (b ∷ bs)
     one None e ih = cc
     one (Some k) e ih = let same : suc k ≡ n = cc in omega (arith, ih k refl)
+
     by : (t u : Bool) → cond t None (cond u (Some 1) (option_map suc (closing q (not escaped && b == 92) bs))) ≡ Some n → ((k : ℕ) → closing q (not escaped && b == 92) bs ≡ Some k → k ≤ length bs) → n ≤ length (b ∷ bs)
     by true u e ih = cc
     by false true e ih = let same : 1 ≡ n = cc in omega arith
@@ -182,7 +184,7 @@ closed_cells q escaped from (c ∷ cs) = by (c.byte == 10) (not escaped && c.byt
   where
     by : (t u : Bool) → ok (closed q (not escaped && c.byte == 92) (c.at + 1) cs) ≡ option_map (λ n. behind n (c.at + 1) cs) (closing q (not escaped && c.byte == 92) (text_of cs))
         → ok (cond t (Err c.at) (cond u (Ok (c.at + 1)) (closed q (not escaped && c.byte == 92) (c.at + 1) cs)))
-          ≡ option_map (λ n. behind n from (c ∷ cs)) (cond t None (cond u (Some 1) (option_map suc (closing q (not escaped && c.byte == 92) (text_of cs)))))
+        ≡ option_map (λ n. behind n from (c ∷ cs)) (cond t None (cond u (Some 1) (option_map suc (closing q (not escaped && c.byte == 92) (text_of cs)))))
     by true u ih = refl
     by false true ih = refl
     by false false ih = ih ∙ behind_suc from c cs (closing q (not escaped && c.byte == 92) (text_of cs))
@@ -226,6 +228,7 @@ block_fits star (b ∷ bs) n e = by (star && b == 47) e (block_fits (b == 42) bs
     one : (o : Option ℕ) → option_map suc o ≡ Some n → ((k : ℕ) → o ≡ Some k → k ≤ length bs) → n ≤ length (b ∷ bs)
     one None e ih = cc
     one (Some k) e ih = let same : suc k ≡ n = cc in omega (arith, ih k refl)
+
     by : (t : Bool) → cond t (Some 1) (option_map suc (block (b == 42) bs)) ≡ Some n → ((k : ℕ) → block (b == 42) bs ≡ Some k → k ≤ length bs) → n ≤ length (b ∷ bs)
     by true e ih = let same : 1 ≡ n = cc in omega arith
     by false e ih = one (block (b == 42) bs) e ih

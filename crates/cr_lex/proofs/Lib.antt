@@ -7,7 +7,8 @@ pub mod Longest
 pub mod Classes
 pub mod Words
 pub mod Found
-pub mod Kinds
+pub mod Lines
+pub mod Whole
 pub mod Spots
 pub mod Plain
 pub mod Runs

@@ -18,7 +18,7 @@ longest_none (suc n) k text h none = by (cases_lt k (suc n)) (λ l f. longest_no
     by (inl l) ih = ap (or_shorter (suc n) (longest n text)) (none (suc n) (omega arith) (omega arith)) ∙ ih (omega arith) (λ m a b. none m a (omega arith))
     by (inr g) ih = ap (λ j. longest j text) (let e : suc n ≡ k = omega arith in e)
 
-longest_hit : (k : ℕ) (text : List ℕ) (part : Part) → part_of (take (suc k) text) ≡ Some part → longest (suc k) text ≡ (suc k, part)
+pub longest_hit : (k : ℕ) (text : List ℕ) (part : Part) → part_of (take (suc k) text) ≡ Some part → longest (suc k) text ≡ (suc k, part)
 unfolding longest
 longest_hit k text part e = ap (or_shorter (suc k) (longest k text)) e
 
@@ -105,12 +105,12 @@ unfolding is_single
 miss_punct a [] e = e
 miss_punct a (b ∷ []) e =
     or_all _ _ _ _ _ _
-      (and_left _ (b == 61) (among (codes "=!<>*/%+-&^|") (codes "[](){}.&*+-~!/%<>^|?:;=,#") a refl e))
-      (and_left _ (a == b) (among (codes "+-<>&|#") (codes "[](){}.&*+-~!/%<>^|?:;=,#") a refl e))
-      (and_left _ (b == 62) (one_byte 45 (codes "[](){}.&*+-~!/%<>^|?:;=,#") a refl e))
-      (and_left _ (is_one_of (codes ":%") b) (one_byte 60 (codes "[](){}.&*+-~!/%<>^|?:;=,#") a refl e))
-      (and_left _ (b == 62) (among (codes ":%") (codes "[](){}.&*+-~!/%<>^|?:;=,#") a refl e))
-      (and_left _ (b == 58) (one_byte 37 (codes "[](){}.&*+-~!/%<>^|?:;=,#") a refl e))
+    (and_left _ (b == 61) (among (codes "=!<>*/%+-&^|") (codes "[](){}.&*+-~!/%<>^|?:;=,#") a refl e))
+    (and_left _ (a == b) (among (codes "+-<>&|#") (codes "[](){}.&*+-~!/%<>^|?:;=,#") a refl e))
+    (and_left _ (b == 62) (one_byte 45 (codes "[](){}.&*+-~!/%<>^|?:;=,#") a refl e))
+    (and_left _ (is_one_of (codes ":%") b) (one_byte 60 (codes "[](){}.&*+-~!/%<>^|?:;=,#") a refl e))
+    (and_left _ (b == 62) (among (codes ":%") (codes "[](){}.&*+-~!/%<>^|?:;=,#") a refl e))
+    (and_left _ (b == 58) (one_byte 37 (codes "[](){}.&*+-~!/%<>^|?:;=,#") a refl e))
   where
     or_all : (p q r s t u : Bool) → p ≡ false → q ≡ false → r ≡ false → s ≡ false → t ≡ false → u ≡ false → (p || q || r || s || t || u) ≡ false
     or_all p q r s t u e1 e2 e3 e4 e5 e6 = rw (e1, e2, e3, e4, e5, e6) refl
@@ -120,3 +120,14 @@ miss_punct a (b ∷ c ∷ []) e = by _ _ (and_left _ (b == 46 && c == 46) (one_b
     by p q f g = rw (f, g) refl
 miss_punct a (b ∷ c ∷ d ∷ []) e = and_left _ (b == 58 && (c == 37 && d == 58)) (one_byte 37 (codes "[](){}.&*+-~!/%<>^|?:;=,#") a refl e)
 miss_punct a (b ∷ c ∷ d ∷ f ∷ xs) e = refl
+
+-- a front of at most n bytes, or a stray byte
+pub longest_small : (n : ℕ) (text : List ℕ) → ((longest n text).0 ≤ n) ⊎ (longest n text ≡ (1, Piece Stray))
+unfolding longest
+longest_small zero text = inr refl
+longest_small (suc n) text = by (part_of (take (suc n) text)) (longest_small n text)
+  where
+    by : (o : Option Part) → ((longest n text).0 ≤ n) ⊎ (longest n text ≡ (1, Piece Stray)) → ((or_shorter (suc n) (longest n text) o).0 ≤ suc n) ⊎ (or_shorter (suc n) (longest n text) o ≡ (1, Piece Stray))
+    by None (inl h) = inl (omega arith)
+    by None (inr e) = inr e
+    by (Some p) h = inl (omega arith)

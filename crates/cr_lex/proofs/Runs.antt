@@ -36,9 +36,10 @@ seen_later names more file t h = ap (λ x. record { kind = t.kind; text = x; at 
 all_later : (names more : List (List ℕ)) (file : PathNo) (ts : List PpTok) → AllByRecursion (IsOf file names) ts → (map (seen (names ++ more)) ts ≡ map (seen names) ts) × AllByRecursion (IsOf file (names ++ more)) ts
 all_later names more file [] h = (refl, h)
 all_later names more file (t ∷ ts) h =
-    let k = all_later names more file ts h.1 in
-    (ap (λ x. x ∷ map (seen (names ++ more)) ts) (seen_later names more file t h.0) ∙ ap (λ l. seen names t ∷ l) k.0,
-    (record { path = h.0.path; origin = h.0.origin; given = omega (arith, h.0.given, length-append names more) }, k.1))
+    let k = all_later names more file ts h.1 in (
+      ap (λ x. x ∷ map (seen (names ++ more)) ts) (seen_later names more file t h.0) ∙ ap (λ l. seen names t ∷ l) k.0,
+      (record { path = h.0.path; origin = h.0.origin; given = omega (arith, h.0.given, length-append names more) }, k.1),
+    )
 
 all_push : (P : PpTok → Type 0) (ts : List PpTok) (t : PpTok) → AllByRecursion P ts → P t → AllByRecursion P (ts ++ t ∷ [])
 all_push P [] t h k = (k, h)
@@ -62,12 +63,12 @@ one_more bytes file old names new ts us t rest after h e is n u =
         let parts : rest.tokens ≡ seen new t ∷ after.tokens = ap (λ r. r.tokens) e in
         record {
           tokens =
-            ap (λ l. map (seen new) l ++ after.tokens) u
-            ∙ ap (λ l. l ++ after.tokens) (map-append (seen new) ts (t ∷ []))
-            ∙ append_assoc (map (seen new) ts) (seen new t ∷ []) after.tokens
-            ∙ ap (λ l. l ++ seen new t ∷ after.tokens) same
-            ∙ ap (λ l. map (seen names) ts ++ l) (sym parts)
-            ∙ h.tokens;
+              ap (λ l. map (seen new) l ++ after.tokens) u
+              ∙ ap (λ l. l ++ after.tokens) (map-append (seen new) ts (t ∷ []))
+              ∙ append_assoc (map (seen new) ts) (seen new t ∷ []) after.tokens
+              ∙ ap (λ l. l ++ seen new t ∷ after.tokens) same
+              ∙ ap (λ l. map (seen names) ts ++ l) (sym parts)
+              ∙ h.tokens;
           of = subst (AllByRecursion (IsOf file new)) (sym u) (all_push (IsOf file new) ts t mine is);
           fault = sym (ap (λ r. r.fault) e) ∙ h.fault;
           texts = ap (λ l. with_texts l after.tokens) added ∙ sym (ap (with_texts names) parts) ∙ h.texts;
@@ -94,9 +95,11 @@ tokens_few before zero (c ∷ cs) = by (longest_part (text_of (c ∷ cs))) (λ b
     stopped : (l : Lexed) (o : Option ℕ) → length l.tokens ≤ length (c ∷ cs) → length (unless_trigraph l o).tokens ≤ length (c ∷ cs)
     stopped l None h = h
     stopped l (Some at) h = omega arith
+
     open_or : (t : Bool) (f : Fault) (l : Lexed) → length l.tokens ≤ length (c ∷ cs) → length (cond t (stop f) l).tokens ≤ length (c ∷ cs)
     open_or true f l h = omega arith
     open_or false f l h = h
+
     by : (p : ℕ × Part) → ((b : Before) (n : ℕ) → length (cut b n cs).tokens ≤ length cs) → length (by_part before c cs (λ after n. cut after n cs) p).tokens ≤ length (c ∷ cs)
     by (n, Blank) ih = let h = ih (record before { space = true }) (n - 1) in omega arith
     by (n, Comment) ih = let h = ih (record before { space = true }) (n - 1) in omega arith
@@ -111,19 +114,20 @@ lexed_few bytes = omega (arith, tokens_few at_start zero (cells zero 0 1 bytes),
 
 pub first_run : (bytes : List ℕ) (file : PathNo) (names : List (List ℕ)) (rest : Lexed) → rest ≡ lexed bytes → IsRun bytes file names names [] rest
 first_run bytes file names rest e = subst (IsRun bytes file names names []) (sym e) (record {
-    tokens = refl;
-    of = tt;
-    fault = refl;
-    texts = refl;
-    extends = ([], sym (append-nil names));
-    room = omega (arith, lexed_few bytes);
-  })
+  tokens = refl;
+  of = tt;
+  fault = refl;
+  texts = refl;
+  extends = ([], sym (append-nil names));
+  room = omega (arith, lexed_few bytes);
+})
 
 -- what was given at the end
 pub all_given : (bytes : List ℕ) (file : PathNo) (old names : List (List ℕ)) (ts : List PpTok) (rest : Lexed) (fault : Option Fault)
     → IsRun bytes file old names ts rest → rest ≡ record { tokens = []; fault = fault }
     → (map (seen names) ts ≡ (lexed bytes).tokens) × (fault ≡ (lexed bytes).fault) × (names ≡ with_texts old (lexed bytes).tokens)
-all_given bytes file old names ts rest fault h e =
-    (sym (append-nil (map (seen names) ts)) ∙ ap (λ r. map (seen names) ts ++ r.tokens) (sym e) ∙ h.tokens,
-    sym (ap (λ r. r.fault) e) ∙ h.fault,
-    sym (ap (λ r. with_texts names r.tokens) e) ∙ h.texts)
+all_given bytes file old names ts rest fault h e = (
+  sym (append-nil (map (seen names) ts)) ∙ ap (λ r. map (seen names) ts ++ r.tokens) (sym e) ∙ h.tokens,
+  sym (ap (λ r. r.fault) e) ∙ h.fault,
+  sym (ap (λ r. with_texts names r.tokens) e) ∙ h.texts,
+)

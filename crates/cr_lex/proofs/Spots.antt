@@ -21,11 +21,11 @@ no_marks q (c ∷ cs) = ((λ h e. absurd (omega arith)), no_marks q cs)
 
 pub at_start-is : (bytes : List ℕ) (s : Spot) → s ≡ record { at = 0; counted = 0; line = 1; first = true; space = true; marks = record { char = 0; string = 0 } } → IsSpot bytes s
 at_start-is bytes s e = subst (IsSpot bytes) (sym e) (record {
-    within = omega arith;
-    counted = omega arith;
-    line = refl;
-    marks = record { char = no_marks 39 (rest bytes 0); string = no_marks 34 (rest bytes 0) };
-  })
+  within = omega arith;
+  counted = omega arith;
+  line = refl;
+  marks = record { char = no_marks 39 (rest bytes 0); string = no_marks 34 (rest bytes 0) };
+})
 
 pub at_start-gives : (bytes : List ℕ) (s : Spot) → s ≡ record { at = 0; counted = 0; line = 1; first = true; space = true; marks = record { char = 0; string = 0 } } → left_at bytes s ≡ lexed bytes
 unfolding left_at lexed rest
@@ -43,3 +43,6 @@ token-gives bytes s after b own next t line g is none seen e =
     ∙ ap (unless_trigraph (with_token (token b own.kind (cell_of bytes own.at) (own_cells bytes own.at own.end)) (cut in_line zero (rest bytes own.end)))) none
     ∙ ap (λ t. with_token t (cut in_line zero (rest bytes own.end))) (sym seen)
     ∙ ap (λ s. with_token t (left_at bytes s)) (sym e)
+
+pub nothing_known : (bytes : List ℕ) (at : ℕ) (marks : Marks) → marks ≡ record { char = 0; string = 0 } → AreMarks bytes at marks
+nothing_known bytes at marks e = subst (AreMarks bytes at) (sym e) (record { char = no_marks 39 (rest bytes at); string = no_marks 34 (rest bytes at) })

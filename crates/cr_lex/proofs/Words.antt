@@ -22,16 +22,18 @@ word_string a xs = (is_wide a && is_quoted 34 xs) || is_behind_u8 (is_quoted 34)
 word_by : (a : ℕ) (xs : List ℕ) → starts_name a ≡ true → part_of (a ∷ xs) ≡ (if list_all is_word_byte xs then Some (Piece Ident) else if word_char a xs then Some (Piece Char) else if word_string a xs then Some (Piece Str) else None)
 word_by a xs h =
     part_by (a ∷ xs) (miss_blank a xs (grind (arith, nat_tests))) (miss_end a xs (grind (arith, nat_tests))) (miss_comment a xs (grind (arith, nat_tests)))
-      (ap (λ t. t && list_all is_word_byte xs) h) (miss_number a xs (grind (arith, nat_tests)) (grind (arith, nat_tests)))
-      (ap (λ t. (t && (not (starts_with 39 xs) && is_elements_and 39 xs)) || (is_wide a && is_quoted_char xs)) single)
-      (ap (λ t. ((t && is_elements_and 34 xs) || (is_wide a && is_quoted 34 xs)) || is_behind_u8 (is_quoted 34) (a ∷ xs)) double)
-      (miss_punct a xs (letter_single a h))
+    (ap (λ t. t && list_all is_word_byte xs) h) (miss_number a xs (grind (arith, nat_tests)) (grind (arith, nat_tests)))
+    (ap (λ t. (t && (not (starts_with 39 xs) && is_elements_and 39 xs)) || (is_wide a && is_quoted_char xs)) single)
+    (ap (λ t. ((t && is_elements_and 34 xs) || (is_wide a && is_quoted 34 xs)) || is_behind_u8 (is_quoted 34) (a ∷ xs)) double)
+    (miss_punct a xs (letter_single a h))
     ∙ by (list_all is_word_byte xs) (word_char a xs) (word_string a xs)
   where
     single : (a == 39) ≡ false
     single = grind (arith, nat_tests)
+
     double : (a == 34) ≡ false
     double = grind (arith, nat_tests)
+
     by : (i c s : Bool) → decided false false false i false c s false ≡ (if i then Some (Piece Ident) else if c then Some (Piece Char) else if s then Some (Piece Str) else None)
     by true c s = refl
     by false true s = refl
@@ -45,12 +47,12 @@ HasNoLiteral a bs = (m : ℕ) → m ≤ length bs → (word_char a (take m bs) �
 pub longest_word : (a : ℕ) (bs : List ℕ) → starts_name a ≡ true → HasNoLiteral a bs → longest_part (a ∷ bs) ≡ (suc (run is_word_byte bs), Piece Ident)
 longest_word a bs h none =
     longest_is a bs (run is_word_byte bs) (Piece Ident) (run_fits is_word_byte bs)
-      (word_by a (take (run is_word_byte bs) bs) h ∙ ap (λ t. if t then Some (Piece Ident) else if word_char a (take (run is_word_byte bs) bs) then Some (Piece Char) else if word_string a (take (run is_word_byte bs) bs) then Some (Piece Str) else None) (run_in is_word_byte bs (run is_word_byte bs) (omega arith)))
-      (λ m l g.
-        word_by a (take m bs) h
-        ∙ ap (λ t. if t then Some (Piece Ident) else if word_char a (take m bs) then Some (Piece Char) else if word_string a (take m bs) then Some (Piece Str) else None) (run_out is_word_byte bs m l g)
-        ∙ ap (λ t. if t then Some (Piece Char) else if word_string a (take m bs) then Some (Piece Str) else None) (none m g).0
-        ∙ ap (λ t. if t then Some (Piece Str) else None) (none m g).1)
+    (word_by a (take (run is_word_byte bs) bs) h ∙ ap (λ t. if t then Some (Piece Ident) else if word_char a (take (run is_word_byte bs) bs) then Some (Piece Char) else if word_string a (take (run is_word_byte bs) bs) then Some (Piece Str) else None) (run_in is_word_byte bs (run is_word_byte bs) (omega arith)))
+    (λ m l g.
+    word_by a (take m bs) h
+    ∙ ap (λ t. if t then Some (Piece Ident) else if word_char a (take m bs) then Some (Piece Char) else if word_string a (take m bs) then Some (Piece Str) else None) (run_out is_word_byte bs m l g)
+    ∙ ap (λ t. if t then Some (Piece Char) else if word_string a (take m bs) then Some (Piece Str) else None) (none m g).0
+    ∙ ap (λ t. if t then Some (Piece Str) else None) (none m g).1)
 
 -- a character behind a prefix
 
@@ -72,8 +74,8 @@ char_by a m bs h w l =
 pub longest_wide_char : (a n : ℕ) (bs : List ℕ) → starts_name a ≡ true → is_wide a ≡ true → char_closing bs ≡ Some n → longest_part (a ∷ 39 ∷ bs) ≡ (suc (suc n), Piece Char)
 longest_wide_char a n bs h w e =
     longest_is a (39 ∷ bs) (suc n) (Piece Char) (omega (arith, char_fits bs n e))
-      (char_by a n bs h w (char_fits bs n e) ∙ ap (λ o. if is_at n o then Some (Piece Char) else None) e ∙ ap (λ t. if t then Some (Piece Char) else None) (eq-eqb n n refl))
-      out
+    (char_by a n bs h w (char_fits bs n e) ∙ ap (λ o. if is_at n o then Some (Piece Char) else None) e ∙ ap (λ t. if t then Some (Piece Char) else None) (eq-eqb n n refl))
+    out
   where
     out : (m : ℕ) → suc n < m → m ≤ length (39 ∷ bs) → part_of (a ∷ take m (39 ∷ bs)) ≡ None
     out zero l g = absurd (omega arith)
@@ -85,6 +87,7 @@ no_wide_char a bs e zero l = (by (is_wide a), by2 (is_wide a))
     by : (t : Bool) → (t && false) ≡ false
     by true = refl
     by false = refl
+
     by2 : (t : Bool) → ((t && false) || false) ≡ false
     by2 true = refl
     by2 false = refl
@@ -124,8 +127,8 @@ string_by a m bs h w l =
 pub longest_wide_string : (a n : ℕ) (bs : List ℕ) → starts_name a ≡ true → is_wide a ≡ true → closing 34 false bs ≡ Some n → longest_part (a ∷ 34 ∷ bs) ≡ (suc (suc n), Piece Str)
 longest_wide_string a n bs h w e =
     longest_is a (34 ∷ bs) (suc n) (Piece Str) (omega (arith, closing_fits 34 false bs n e))
-      (string_by a n bs h w (closing_fits 34 false bs n e) ∙ ap (λ o. if is_at n o then Some (Piece Str) else None) e ∙ ap (λ t. if t then Some (Piece Str) else None) (eq-eqb n n refl))
-      out
+    (string_by a n bs h w (closing_fits 34 false bs n e) ∙ ap (λ o. if is_at n o then Some (Piece Str) else None) e ∙ ap (λ t. if t then Some (Piece Str) else None) (eq-eqb n n refl))
+    out
   where
     out : (m : ℕ) → suc n < m → m ≤ length (34 ∷ bs) → part_of (a ∷ take m (34 ∷ bs)) ≡ None
     out zero l g = absurd (omega arith)
@@ -137,6 +140,7 @@ no_wide_string a bs e zero l = (by (is_wide a), by2 (is_wide a))
     by : (t : Bool) → (t && false) ≡ false
     by true = refl
     by false = refl
+
     by2 : (t : Bool) → ((t && false) || false) ≡ false
     by2 true = refl
     by2 false = refl
@@ -158,8 +162,8 @@ u8_by m bs l = word_by 117 (56 ∷ 34 ∷ take m bs) refl ∙ ap (λ t. if t the
 pub longest_u8 : (n : ℕ) (bs : List ℕ) → closing 34 false bs ≡ Some n → longest_part (117 ∷ 56 ∷ 34 ∷ bs) ≡ (suc (suc (suc n)), Piece Str)
 longest_u8 n bs e =
     longest_is 117 (56 ∷ 34 ∷ bs) (suc (suc n)) (Piece Str) (omega (arith, closing_fits 34 false bs n e))
-      (u8_by n bs (closing_fits 34 false bs n e) ∙ ap (λ o. if is_at n o then Some (Piece Str) else None) e ∙ ap (λ t. if t then Some (Piece Str) else None) (eq-eqb n n refl))
-      out
+    (u8_by n bs (closing_fits 34 false bs n e) ∙ ap (λ o. if is_at n o then Some (Piece Str) else None) e ∙ ap (λ t. if t then Some (Piece Str) else None) (eq-eqb n n refl))
+    out
   where
     out : (m : ℕ) → suc (suc n) < m → m ≤ length (56 ∷ 34 ∷ bs) → part_of (117 ∷ take m (56 ∷ 34 ∷ bs)) ≡ None
     out zero l g = absurd (omega arith)
@@ -187,24 +191,29 @@ no_quote a b bs s d u zero l = (by (is_wide a), by2 (is_wide a))
     by : (t : Bool) → (t && false) ≡ false
     by true = refl
     by false = refl
+
     by2 : (t : Bool) → ((t && false) || false) ≡ false
     by2 true = refl
     by2 false = refl
-no_quote a b bs s d u (suc m) l =
-    (ap (λ t. is_wide a && (t && (not (starts_with 39 (take m bs)) && is_elements_and 39 (take m bs)))) s ∙ by (is_wide a),
-    ap (λ t. (is_wide a && (t && is_elements_and 34 (take m bs))) || (a == 117 && (b == 56 && is_quoted 34 (take m bs)))) d ∙ by2 (is_wide a) (a == 117 && (b == 56 && is_quoted 34 (take m bs))) ∙ none m bs u)
+no_quote a b bs s d u (suc m) l = (
+  ap (λ t. is_wide a && (t && (not (starts_with 39 (take m bs)) && is_elements_and 39 (take m bs)))) s ∙ by (is_wide a),
+  ap (λ t. (is_wide a && (t && is_elements_and 34 (take m bs))) || (a == 117 && (b == 56 && is_quoted 34 (take m bs)))) d ∙ by2 (is_wide a) (a == 117 && (b == 56 && is_quoted 34 (take m bs))) ∙ none m bs u,
+)
   where
     by : (t : Bool) → (t && false) ≡ false
     by true = refl
     by false = refl
+
     by2 : (t x : Bool) → ((t && false) || x) ≡ x
     by2 true x = refl
     by2 false x = refl
+
     cut : (p q r x : Bool) → (p && (q && r)) ≡ false → (p && (q && (r && x))) ≡ false
     cut true true true x h = cc
     cut true true false x h = refl
     cut true false r x h = refl
     cut false q r x h = refl
+
     none : (m : ℕ) (bs : List ℕ) → (a == 117 && (b == 56 && starts_with 34 bs)) ≡ false → (a == 117 && (b == 56 && is_quoted 34 (take m bs))) ≡ false
     none zero bs h = none_at (a == 117) (b == 56)
       where

@@ -3,6 +3,7 @@
 use Rattle.std.specs.Prelude.{ℕ, zero, suc, ◌≡◌, ◌+◌, ◌<◌, ◌≤◌, Bool, false, not, ◌&&◌, ◌||◌, ◌==◌, List, [], ◌∷◌, take, drop, length, count_by, slice_index, nat_lt, codes, Option, Some, None, Result, Ok, Err, if◌then◌else◌}
 use Rattle.std.specs.Option.{option_map, unwrap_or}
 use Rattle.cr_base.specs.Names.{is_digit, is_word_byte, starts_name}
+use Rattle.cr_base.specs.declared.token.PpKind.{PpKind}
 use Rattle.cr_base.specs.declared.token.PpKind.TheVariants.{Ident, Number, Char, Str, Punct, Stray}
 use Rattle.cr_lex.specs.Spellings.{is_one_of, goes_on_behind, is_pair, is_triple, is_blank_byte}
 use Rattle.cr_lex.specs.Joins.{Cell, cells, is_trigraph}

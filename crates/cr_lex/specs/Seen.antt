@@ -15,15 +15,15 @@ use Rattle.cr_lex.specs.declared.fault.LexStep.TheVariants as step
 -- a token of the code, where the table of names has these texts
 abbrev pub seen : List (List ℕ) → PpTok → Token
 seen names t = record {
-    kind = t.kind;
-    text = slice_index_or names t.text.0 [];
-    at = t.site.offset;
-    end = t.end;
-    line = t.line;
-    space = t.space;
-    first = t.first;
-    joined = t.joined;
-  }
+  kind = t.kind;
+  text = slice_index_or names t.text.0 [];
+  at = t.site.offset;
+  end = t.end;
+  line = t.line;
+  space = t.space;
+  first = t.first;
+  joined = t.joined;
+}
 
 -- a token stands in a file and comes from there, and the table of names gave its text's number
 pub record IsOf (file : PathNo) (names : List (List ℕ)) (t : PpTok) : Type 0 where

@@ -43,8 +43,8 @@ found_gives bytes b at end found.LineEnd = cut (record { first = true; space = t
 found_gives bytes b at end found.OpenComment = stop (lexing.OpenComment at)
 found_gives bytes b at end (found.Piece kind) =
     unless_trigraph
-      (with_token (token b kind (cell_of bytes at) (own_cells bytes at end)) (cut in_line zero (rest bytes end)))
-      (first_trigraph (own_cells bytes at end))
+    (with_token (token b kind (cell_of bytes at) (own_cells bytes at end)) (cut in_line zero (rest bytes end)))
+    (first_trigraph (own_cells bytes at end))
 
 -- what is given where this comes next
 abbrev pub given : List ℕ → Before → Ahead → Lexed
@@ -52,10 +52,10 @@ given bytes b ahead.End = record { tokens = []; fault = None }
 given bytes b (ahead.Open at) = stop (lexing.OpenComment at)
 given bytes b (ahead.Token own) =
     unless_trigraph
-      (with_token
-        (token b own.kind (cell_of bytes own.at) (own_cells bytes own.at own.end))
-        (cut in_line zero (rest bytes own.end)))
-      (first_trigraph (own_cells bytes own.at own.end))
+    (with_token
+    (token b own.kind (cell_of bytes own.at) (own_cells bytes own.at own.end))
+    (cut in_line zero (rest bytes own.end)))
+    (first_trigraph (own_cells bytes own.at own.end))
 
 -- what stands next
 abbrev pub IsNext : List ℕ → ℕ → Spot → Ahead → Type 0

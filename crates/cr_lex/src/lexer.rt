@@ -151,7 +151,9 @@ impl Lexer {
         let halt = go_on(bytes, self.spot);
         let own = match halt.ahead {
             Ahead::End => return Ok(LexStep::End),
-            Ahead::Open(at) => return Ok(LexStep::Fault(LexFault::OpenComment(place(self.file, at)))),
+            Ahead::Open(at) => return Ok(LexStep::Fault(LexFault::OpenComment(place(
+                self.file, at,
+            )))),
             Ahead::Token(own) => own,
         };
         if let Some(at) = first_trigraph(bytes, own.at, own.end) {

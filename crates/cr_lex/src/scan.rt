@@ -23,7 +23,8 @@ pub fn word_end(bytes: &[u8], from: usize) -> usize
     at
 }
 
-fn is_not_line_feed(byte: u8) -> bool
+/// Any byte but a line feed.
+pub fn is_not_line_feed(byte: u8) -> bool
     ensures { result ≡ scanning.is_not_line_feed byte }
 {
     byte != b'\n'

@@ -1,13 +1,13 @@
 -- A text that is exactly one token.
-use Rattle.std.proofs.Common.{◌≡◌, ℕ, zero, suc, ◌+◌, ◌-◌, ◌<◌, ◌≤◌, ◌⊎◌, inl, inr, Bool, true, false, not, ◌&&◌, ◌||◌, cond, List, [], ◌∷◌, length, get_or, map, take, drop, Option, Some, None, refl, ap, sym, ◌∙◌, subst, arith, codes}
-use Rattle.std.specs.Prelude.{◌==◌, if◌then◌else◌}
-use Rattle.std.specs.List.{list_all, list_any}
-use Rattle.std.proofs.lemmas.Bool.{cases_Bool, and_left, and_parts, or_cases, eqb-true, eq-eqb, ne_eqb}
+use Rattle.std.proofs.Common.{◌≡◌, ℕ, ◌⊎◌, inl, inr, Bool, true, false, not, ◌&&◌, ◌||◌, cond, List, [], ◌∷◌, Option, Some, None, refl, ap, sym, ◌∙◌, arith, codes}
+use Rattle.std.specs.Prelude.{◌==◌}
+use Rattle.std.specs.List.{list_all}
+use Rattle.std.proofs.lemmas.Bool.{and_parts, or_cases, eqb-true}
 use Rattle.std.proofs.lemmas.Bool.Decides.{nat_tests}
 use Rattle.cr_base.specs.Names.{is_identifier, is_digit, is_word_byte, starts_name}
 use Rattle.cr_base.specs.declared.token.PpKind.{PpKind}
-use Rattle.cr_base.specs.declared.token.PpKind.TheVariants.{Ident, Number, Char, Str, Punct, Stray}
-use Rattle.cr_lex.specs.Spellings.{token_kind, is_number, is_char, is_string, is_punctuator, goes_on_behind, goes_on_a_number, is_digit_and_more, is_elements_and, is_quoted, is_quoted_char, starts_with, is_behind_u8, is_one_of, is_pair, is_triple}
+use Rattle.cr_base.specs.declared.token.PpKind.TheVariants.{Ident, Number, Char, Str, Punct}
+use Rattle.cr_lex.specs.Spellings.{token_kind, is_number, is_char, is_string, is_punctuator, goes_on_behind, goes_on_a_number, is_digit_and_more, is_elements_and, is_quoted, is_quoted_char, starts_with, is_behind_u8, is_one_of, is_pair}
 use Rattle.cr_lex.specs.Scanning.{is_wide, is_not_line_feed}
 
 -- no line feed
@@ -52,9 +52,9 @@ digits_line (b ∷ bs) h = let p = and_parts (is_digit b) (goes_on_a_number b bs
 number_line : (text : List ℕ) → is_number text ≡ true → OneLine text
 number_line [] h = refl
 number_line (b ∷ bs) h = elim (or_cases (is_digit_and_more (b ∷ bs)) (b == 46 && is_digit_and_more bs) h) [
-    inl e ↦ digits_line (b ∷ bs) e
+  | inl e ↦ digits_line (b ∷ bs) e
   | inr e ↦ (let p = and_parts (b == 46) (is_digit_and_more bs) e in more b bs (dot b p.0) (digits_line bs p.1))
-  ]
+]
   where
     dot : (b : ℕ) → (b == 46) ≡ true → (b == 10) ≡ false
     dot b h = grind (arith, nat_tests)
@@ -70,6 +70,7 @@ elements_line q f (a ∷ b ∷ bs) h = by (a == 92) refl h (elements_line q f bs
   where
     escape : (a : ℕ) → (a == 92) ≡ true → (a == 10) ≡ false
     escape a h = grind (arith, nat_tests)
+
     by : (t : Bool) → (a == 92) ≡ t → cond t (not (b == 10) && is_elements_and q bs) (not (a == q) && not (a == 10) && is_elements_and q (b ∷ bs)) ≡ true
         → (is_elements_and q bs ≡ true → OneLine bs) → (is_elements_and q (b ∷ bs) ≡ true → OneLine (b ∷ bs)) → OneLine (a ∷ b ∷ bs)
     by true e h i j = let p = and_parts (not (b == 10)) (is_elements_and q bs) h in more a (b ∷ bs) (escape a e) (more b bs (is_false (b == 10) p.0) (i p.1))
@@ -93,9 +94,9 @@ wide_line b h = grind (arith, nat_tests)
 char_line : (text : List ℕ) → is_char text ≡ true → OneLine text
 char_line [] h = refl
 char_line (b ∷ bs) h = elim (or_cases (is_quoted_char (b ∷ bs)) (is_wide b && is_quoted_char bs) h) [
-    inl e ↦ char_quoted_line (b ∷ bs) e
+  | inl e ↦ char_quoted_line (b ∷ bs) e
   | inr e ↦ (let p = and_parts (is_wide b) (is_quoted_char bs) e in more b bs (wide_line b p.0) (char_quoted_line bs p.1))
-  ]
+]
 
 u8_line : (text : List ℕ) → is_behind_u8 (is_quoted 34) text ≡ true → OneLine text
 u8_line [] h = refl
@@ -108,9 +109,9 @@ u8_line (a ∷ b ∷ bs) h =
 string_line : (text : List ℕ) → is_string text ≡ true → OneLine text
 string_line [] h = refl
 string_line (b ∷ bs) h = elim (or_cases (is_quoted 34 (b ∷ bs) || (is_wide b && is_quoted 34 bs)) (is_behind_u8 (is_quoted 34) (b ∷ bs)) h) [
-    inl e ↦ plain (or_cases (is_quoted 34 (b ∷ bs)) (is_wide b && is_quoted 34 bs) e)
+  | inl e ↦ plain (or_cases (is_quoted 34 (b ∷ bs)) (is_wide b && is_quoted 34 bs) e)
   | inr e ↦ u8_line (b ∷ bs) e
-  ]
+]
   where
     plain : (is_quoted 34 (b ∷ bs) ≡ true) ⊎ ((is_wide b && is_quoted 34 bs) ≡ true) → OneLine (b ∷ bs)
     plain (inl e) = quoted_line 34 refl (b ∷ bs) e
@@ -130,21 +131,24 @@ punct_line (a ∷ b ∷ []) h = by (a == 10) (b == 10) refl refl
   where
     no_pair : (b : ℕ) → is_pair 10 b ≡ false
     no_pair b = refl
+
     no_second : (a : ℕ) → (a == 10) ≡ false → is_pair a 10 ≡ false
     no_second a h = grind (arith, nat_tests)
+
     by : (t u : Bool) → (a == 10) ≡ t → (b == 10) ≡ u → OneLine (a ∷ b ∷ [])
     by true u e f = let bad : false ≡ true = sym (ap (λ x. is_pair x b) (eqb-true a 10 e) ∙ no_pair b) ∙ h in cc
     by false true e f = let bad : false ≡ true = sym (ap (is_pair a) (eqb-true b 10 f) ∙ no_second a e) ∙ h in cc
     by false false e f = more a (b ∷ []) e (more b [] f refl)
 punct_line (a ∷ b ∷ c ∷ []) h = elim (or_cases (a == 46 && (b == 46 && c == 46)) (is_one_of (codes "<>") a && (a == b && c == 61)) h) [
-    inl e ↦ (let p = and_parts (a == 46) (b == 46 && c == 46) e in let r = and_parts (b == 46) (c == 46) p.1 in
+  | inl e ↦ (let p = and_parts (a == 46) (b == 46 && c == 46) e in let r = and_parts (b == 46) (c == 46) p.1 in
       three (ap (λ x. x == 10) (eqb-true a 46 p.0)) (ap (λ x. x == 10) (eqb-true b 46 r.0)) (ap (λ x. x == 10) (eqb-true c 46 r.1)))
   | inr e ↦ (let p = and_parts (is_one_of (codes "<>") a) (a == b && c == 61) e in let r = and_parts (a == b) (c == 61) p.1 in
       three (angle a p.0) (ap (λ x. x == 10) (sym (eqb-true a b r.0)) ∙ angle a p.0) (ap (λ x. x == 10) (eqb-true c 61 r.1)))
-  ]
+]
   where
     three : (a == 10) ≡ false → (b == 10) ≡ false → (c == 10) ≡ false → OneLine (a ∷ b ∷ c ∷ [])
     three e f g = more a (b ∷ c ∷ []) e (more b (c ∷ []) f (more c [] g refl))
+
     angle : (a : ℕ) → is_one_of (codes "<>") a ≡ true → (a == 10) ≡ false
     angle a h = grind (arith, nat_tests)
 punct_line (a ∷ b ∷ c ∷ d ∷ []) h =
