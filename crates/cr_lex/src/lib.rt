@@ -15,3 +15,6 @@ mod text;
 pub use fault::{LexFault, LexStep, Lexed};
 pub use kind::token_kind;
 pub use lexer::{Lexer, lex};
+
+#[cfg(test)]
+mod tests;
