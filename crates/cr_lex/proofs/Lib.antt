@@ -9,6 +9,9 @@ pub mod Words
 pub mod Found
 pub mod Lines
 pub mod Whole
+pub mod Shifting
+pub mod Edited
+pub mod Substituted
 pub mod Spots
 pub mod Plain
 pub mod Runs

@@ -5,3 +5,4 @@ pub mod Scanning
 pub mod Standing
 pub mod Seen
 pub mod Lexers
+pub mod Renaming
