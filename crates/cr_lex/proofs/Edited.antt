@@ -110,7 +110,7 @@ cells_before (b ∷ f) l ys skip at line h s =
 
 -- a name is cut byte by byte
 
-word_is : (w : ℕ) → is_word_byte w ≡ true → ((92 == w) ≡ false) × ((w == 63) ≡ false) × ((w == 10) ≡ false)
+pub word_is : (w : ℕ) → is_word_byte w ≡ true → ((92 == w) ≡ false) × ((w == 63) ≡ false) × ((w == 10) ≡ false)
 word_is w h = (grind (arith, nat_tests), grind (arith, nat_tests), grind (arith, nat_tests))
 
 no_trigraph : (w : ℕ) (ys : List ℕ) → (w == 63) ≡ false → is_trigraph (w ∷ ys) ≡ false
@@ -118,7 +118,7 @@ no_trigraph w [] h = refl
 no_trigraph w (a ∷ []) h = refl
 no_trigraph w (a ∷ b ∷ ys) h = and_left (w == 63) (a == 63 && is_one_of (codes "=(/)'<!>-") b) h
 
-no_join : (w : ℕ) (ys : List ℕ) → (92 == w) ≡ false → join_len (w ∷ ys) ≡ 0
+pub no_join : (w : ℕ) (ys : List ℕ) → (92 == w) ≡ false → join_len (w ∷ ys) ≡ 0
 no_join w ys h = ap (λ t. cond (t && begins (10 ∷ []) ys) 2 (cond (t && begins (13 ∷ 10 ∷ []) ys) 3 0)) h
 
 pub cells_name : (ws ys : List ℕ) (at line : ℕ) → list_all is_word_byte ws ≡ true → cells zero at line (ws ++ ys) ≡ name_cells at line ws ++ cells zero (at + length ws) line ys

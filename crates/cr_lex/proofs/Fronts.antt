@@ -112,11 +112,11 @@ behind_suc from c cs (Some n) = refl
 
 -- literals, byte by byte: a backslash that escapes is directly before, or not
 
-abbrev body : ℕ → Bool → List ℕ → Bool
+abbrev pub body : ℕ → Bool → List ℕ → Bool
 body q escaped [] = false
 body q escaped (b ∷ bs) = if b == 10 then false else if not escaped && b == q then is_empty bs else body q (not escaped && b == 92) bs
 
-body_of : (q : ℕ) → (q == 10) ≡ false → (q == 92) ≡ false → (xs : List ℕ) → is_elements_and q xs ≡ body q false xs
+pub body_of : (q : ℕ) → (q == 10) ≡ false → (q == 92) ≡ false → (xs : List ℕ) → is_elements_and q xs ≡ body q false xs
 body_of q f g [] = refl
 body_of q f g (a ∷ []) = by (a == q) (a == 10) (λ e k. let same : q ≡ 10 = sym (eqb-true a q e) ∙ eqb-true a 10 k in sym (eq-eqb q 10 same) ∙ f)
   where
@@ -191,7 +191,7 @@ closed_cells q escaped from (c ∷ cs) = by (c.byte == 10) (not escaped && c.byt
 
 -- comments
 
-abbrev tail : Bool → List ℕ → Bool
+abbrev pub tail : Bool → List ℕ → Bool
 tail star [] = false
 tail star (b ∷ bs) = if star && b == 47 then is_empty bs else tail (b == 42) bs
 
@@ -199,7 +199,7 @@ tail_of : (a : ℕ) (xs : List ℕ) → is_up_to_end (a ∷ xs) ≡ tail (a == 4
 tail_of a [] = refl
 tail_of a (b ∷ bs) = ap (λ t. cond (a == 42 && b == 47) (is_empty bs) t) (tail_of b bs)
 
-tail_all : (xs : List ℕ) → is_up_to_end xs ≡ tail false xs
+pub tail_all : (xs : List ℕ) → is_up_to_end xs ≡ tail false xs
 tail_all [] = refl
 tail_all (a ∷ xs) = tail_of a xs
 

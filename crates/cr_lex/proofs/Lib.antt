@@ -12,6 +12,9 @@ pub mod Whole
 pub mod Shifting
 pub mod Edited
 pub mod Substituted
+pub mod Segments
+pub mod Keeping
+pub mod Kept
 pub mod Spots
 pub mod Plain
 pub mod Runs

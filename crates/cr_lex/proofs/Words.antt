@@ -19,7 +19,7 @@ word_char a xs = is_wide a && is_quoted_char xs
 abbrev pub word_string : ℕ → List ℕ → Bool
 word_string a xs = (is_wide a && is_quoted 34 xs) || is_behind_u8 (is_quoted 34) (a ∷ xs)
 
-word_by : (a : ℕ) (xs : List ℕ) → starts_name a ≡ true → part_of (a ∷ xs) ≡ (if list_all is_word_byte xs then Some (Piece Ident) else if word_char a xs then Some (Piece Char) else if word_string a xs then Some (Piece Str) else None)
+pub word_by : (a : ℕ) (xs : List ℕ) → starts_name a ≡ true → part_of (a ∷ xs) ≡ (if list_all is_word_byte xs then Some (Piece Ident) else if word_char a xs then Some (Piece Char) else if word_string a xs then Some (Piece Str) else None)
 word_by a xs h =
     part_by (a ∷ xs) (miss_blank a xs (grind (arith, nat_tests))) (miss_end a xs (grind (arith, nat_tests))) (miss_comment a xs (grind (arith, nat_tests)))
     (ap (λ t. t && list_all is_word_byte xs) h) (miss_number a xs (grind (arith, nat_tests)) (grind (arith, nat_tests)))

@@ -1,0 +1,287 @@
+-- The tokens of a file whose old name was replaced at places of such tokens.
+use Rattle.std.proofs.Common.{◌≡◌, ℕ, zero, suc, ◌+◌, ◌-◌, ◌<◌, ◌≤◌, ◌⊎◌, inl, inr, Bool, true, false, not, ◌&&◌, ◌||◌, cond, List, [], ◌∷◌, ◌++◌, length, map, take, drop, get_or, Option, Some, None, refl, ap, sym, ◌∙◌, subst, arith, codes, length-append, append_assoc, length-take-le, length-drop, take-append-drop}
+use Rattle.std.specs.Prelude.{◌==◌, if◌then◌else◌}
+use Rattle.std.specs.List.{list_all, list_any}
+use Rattle.std.specs.Option.{option_map}
+use Rattle.std.proofs.lemmas.Bool.{cases_Bool, cases_lt, cases_eq, and_parts, or_cases, or_parts, eqb-true, eq-eqb, ne_eqb}
+use Rattle.std.proofs.lemmas.List.{map-append, take-map, length-map}
+use Rattle.cr_base.specs.Names.{is_identifier, is_word_byte, starts_name}
+use Rattle.cr_base.specs.Substitution.{Rise, shifted}
+use Rattle.cr_base.specs.declared.token.PpKind.{PpKind}
+use Rattle.cr_base.specs.declared.token.PpKind.TheVariants.{Ident}
+use Rattle.cr_lex.specs.Spellings.{Part, Piece}
+use Rattle.cr_lex.specs.Spellings as spellings
+use Rattle.cr_lex.specs.Joins.{Cell, text_of, begins, join_len}
+use Rattle.cr_lex.specs.Lexing.{Token, Lexed, Fault, Before, longest_part, by_part, piece, cut, stop, token, with_token, unless_trigraph, first_trigraph, end_of}
+use Rattle.cr_lex.specs.Lexing as lexing
+use Rattle.cr_lex.specs.Scanning.{rest, behind}
+use Rattle.cr_lex.specs.Renaming.{is_among, is_before_quote, shifted_fault, could_prefix}
+use Rattle.cr_lex.proofs.Marks.{Rising, sooner, rest_rises}
+use Rattle.cr_lex.proofs.First.{cut_one, cut_none, skip_cut, rest_next, rest_behind, ends_behind, Rising-behind}
+use Rattle.cr_lex.proofs.Edited.{edited, name_cells, moved_to, edited_skip, drop_name, no_join, word_is, identifier_words}
+use Rattle.cr_lex.proofs.Segments.{Segment, Stays, Word, old_text, new_text, AreWords, with_letters}
+use Rattle.cr_lex.proofs.Shifting.{IsOut, shifted-more, shifted-place, out_more, out_place}
+use Rattle.cr_lex.proofs.Cells.{rest_byte, rest_end}
+use Rattle.std.proofs.lemmas.List.{drop_more}
+use Rattle.std.proofs.Math.Seq.{take-append_seam, drop-append_seam}
+use Rattle.cr_lex.proofs.Keeping.{longest_kept, longest_name, Ends, stays, old_stays, new_stays}
+
+-- a token is one of these
+abbrev pub In : Token → List Token → Type 0
+In t [] = ⊥
+In t (u ∷ us) = (u ≡ t) ⊎ In t us
+
+-- tokens of cells stand at or behind the first
+
+tokens_behind : (b : Before) (skip from : ℕ) (cs : List Cell) (t : Token) → Rising from cs → In t (cut b skip cs).tokens → from ≤ t.at
+unfolding cut
+tokens_behind b skip from [] t r h = absurd h
+tokens_behind b (suc skip) from (c ∷ cs) t r h = let k = tokens_behind b skip (c.at + 1) cs t r.1 h in omega (arith, r.0)
+tokens_behind b zero from (c ∷ cs) t r h = by (longest_part (text_of (c ∷ cs))) h (λ b n k. tokens_behind b n (c.at + 1) cs t r.1 k)
+  where
+    later : (l : Lexed) (o : Option ℕ) → (In t l.tokens → from ≤ t.at) → In t (unless_trigraph l o).tokens → from ≤ t.at
+    later l None k h = k h
+    later l (Some at) k h = absurd h
+    opened : (x : Bool) (f : Fault) (l : Lexed) → (In t l.tokens → from ≤ t.at) → In t (cond x (stop f) l).tokens → from ≤ t.at
+    opened true f l k h = absurd h
+    opened false f l k h = k h
+    one : (u : Token) (us : List Token) → u.at ≡ c.at → (In t us → c.at + 1 ≤ t.at) → In t (u ∷ us) → from ≤ t.at
+    one u us e k (inl same) = let q : t.at ≡ c.at = ap (λ x. x.at) (sym same) ∙ e in omega (arith, r.0)
+    one u us e k (inr h) = let q = k h in omega (arith, r.0)
+    by : (p : ℕ × Part) → In t (by_part b c cs (λ after n. cut after n cs) p).tokens → ((b : Before) (n : ℕ) → In t (cut b n cs).tokens → c.at + 1 ≤ t.at) → from ≤ t.at
+    by (n, spellings.Blank) h ih = let q = ih (record b { space = true }) (n - 1) h in omega (arith, r.0)
+    by (n, spellings.Comment) h ih = let q = ih (record b { space = true }) (n - 1) h in omega (arith, r.0)
+    by (n, spellings.LineEnd) h ih = let q = ih (record { first = true; space = true }) (n - 1) h in omega (arith, r.0)
+    by (n, Piece kind) h ih =
+        opened (begins (codes "/*") (text_of (c ∷ cs))) (lexing.OpenComment c.at) _
+          (later (with_token (token b kind c (take n (c ∷ cs))) (cut (record { first = false; space = false }) (n - 1) cs)) (first_trigraph (take n (c ∷ cs)))
+            (one (token b kind c (take n (c ∷ cs))) (cut (record { first = false; space = false }) (n - 1) cs).tokens refl (ih (record { first = false; space = false }) (n - 1))))
+          h
+
+-- the first bytes of a comment are found alike
+same_open : (old : List ℕ) → is_identifier old ≡ true → (a : ℕ) (s : List Segment) → AreWords s → begins (codes "/*") (a ∷ old_text old s) ≡ begins (codes "/*") (a ∷ new_text s)
+same_open old name a [] h = refl
+same_open old name a (Stays b ∷ s) h = refl
+same_open old name a (Word w ∷ s) h = with_letters old name (λ xs ys. begins (codes "/*") (a ∷ xs ++ old_text old s) ≡ begins (codes "/*") (a ∷ ys ++ new_text s)) w h.0 (λ l m xs ys e f g i.
+    ap (λ t. 47 == a && (t && begins [] (xs ++ old_text old s))) (star l e) ∙ sym (ap (λ t. 47 == a && (t && begins [] (ys ++ new_text s))) (star m f)))
+  where
+    star : (l : ℕ) → starts_name l ≡ true → (42 == l) ≡ false
+    star l h = ne_eqb 42 l (λ e. let bad : true ≡ false = sym h ∙ ap starts_name (sym e) in cc)
+
+-- parts of a cell list
+
+text_moved : (shift : ℕ → ℕ) (cs : List Cell) → text_of (map (moved_to shift) cs) ≡ text_of cs
+text_moved shift [] = refl
+text_moved shift (c ∷ cs) = ap (λ l. c.byte ∷ l) (text_moved shift cs)
+
+text_name : (at line : ℕ) (ws : List ℕ) (cs : List Cell) → text_of (name_cells at line ws ++ cs) ≡ ws ++ text_of cs
+text_name at line [] cs = refl
+text_name at line (w ∷ ws) cs = ap (λ l. w ∷ l) (text_name (at + 1) line ws cs)
+
+trigraph_moved : (shift : ℕ → ℕ) (cs : List Cell) → first_trigraph (map (moved_to shift) cs) ≡ option_map shift (first_trigraph cs)
+trigraph_moved shift [] = refl
+trigraph_moved shift (c ∷ cs) = by c.trigraph (trigraph_moved shift cs)
+  where
+    by : (t : Bool) → first_trigraph (map (moved_to shift) cs) ≡ option_map shift (first_trigraph cs) → cond t (Some (shift c.at)) (first_trigraph (map (moved_to shift) cs)) ≡ option_map shift (cond t (Some c.at) (first_trigraph cs))
+    by true h = refl
+    by false h = h
+
+no_trigraph : (at line : ℕ) (ws : List ℕ) → first_trigraph (name_cells at line ws) ≡ None
+no_trigraph at line [] = refl
+no_trigraph at line (w ∷ ws) = no_trigraph (at + 1) line ws
+
+name_end : (at line w : ℕ) (ws : List ℕ) → end_of (name_cells at line (w ∷ ws)) ≡ at + length (w ∷ ws)
+name_end at line w [] = omega arith
+name_end at line w (v ∷ ws) = name_end (at + 1) line v ws ∙ (let e : at + 1 + length (v ∷ ws) ≡ at + length (w ∷ v ∷ ws) = omega arith in e)
+
+name_length : (at line : ℕ) (ws : List ℕ) → length (name_cells at line ws) ≡ length ws
+name_length at line [] = refl
+name_length at line (w ∷ ws) = ap suc (name_length (at + 1) line ws)
+
+take_name : (at line : ℕ) (ws : List ℕ) (cs : List Cell) → take (length ws) (name_cells at line ws ++ cs) ≡ name_cells at line ws
+take_name at line [] cs = refl
+take_name at line (w ∷ ws) cs = ap (λ l. record { byte = w; at = at; line = line; trigraph = false } ∷ l) (take_name (at + 1) line ws cs)
+
+take_front : (xs ys : List Cell) (k : ℕ) → length xs ≡ k → take k (xs ++ ys) ≡ xs
+take_front xs ys k e = ap (λ n. take n (xs ++ ys)) (sym e) ∙ take-append_seam xs ys
+
+drop_front : (xs ys : List Cell) (k : ℕ) → length xs ≡ k → drop k (xs ++ ys) ≡ ys
+drop_front xs ys k e = ap (λ n. drop n (xs ++ ys)) (sym e) ∙ drop-append_seam xs ys
+
+end_moved : (shift : ℕ → ℕ) (c : Cell) (cs : List Cell) (e : ℕ) → end_of (c ∷ cs) ≡ suc e → end_of (map (moved_to shift) (c ∷ cs)) ≡ shift e + 1
+end_moved shift c [] e h = ap (λ x. shift x + 1) (let q : c.at ≡ e = omega arith in q)
+end_moved shift c (d ∷ cs) e h = end_moved shift d cs e h
+
+module _ (bytes old new : List ℕ) (os : List ℕ) (name : is_identifier old ≡ true) (fresh : is_identifier new ≡ true) (rise : Rise 0 os (length old) (length bytes))
+  (raw : (p : ℕ) → is_among os p ≡ true → take (length old) (drop p bytes) ≡ old) where
+  abbrev place : ℕ → Bool
+  place = is_among os
+
+  abbrev shift : ℕ → ℕ
+  shift = shifted os (length old) (length new)
+
+  abbrev E : List Cell → List Cell
+  E cs = edited (is_among os) (shifted os (length old) (length new)) (length old) new zero cs
+
+  abbrev Out : ℕ → Type 0
+  Out p = IsOut (length old) (length new) os p
+
+  abbrev ren : Token → Token
+  ren t = record t { text = if is_among os t.at then new else t.text; at = shifted os (length old) (length new) t.at; end = shifted os (length old) (length new) t.end }
+
+  abbrev renl : Lexed → Lexed
+  renl l = record { tokens = map ren l.tokens; fault = option_map (shifted_fault (shifted os (length old) (length new))) l.fault }
+
+  some : 0 < length old
+  some = by old name
+    where
+      by : (xs : List ℕ) → is_identifier xs ≡ true → 0 < length xs
+      by [] h = cc
+      by (x ∷ xs) h = omega arith
+
+  abbrev NoPlace : ℕ → ℕ → Type 0
+  NoPlace from end = (p : ℕ) → from ≤ p → p < end → is_among os p ≡ false
+
+  shift_run : (d p : ℕ) → Out p → NoPlace p (p + d) → (shift (p + d) ≡ shift p + d) × Out (p + d)
+  shift_run zero p out none = (ap shift (let e : p + 0 ≡ p = omega arith in e) ∙ (let e : shift p ≡ shift p + 0 = omega arith in e), subst Out (let e : p ≡ p + 0 = omega arith in e) out)
+  shift_run (suc d) p out none =
+      let k = shift_run d (p + 1) (out_more (length old) (length new) os p out (none p (omega arith) (omega arith))) (λ q a b. none q (omega arith) (omega arith)) in
+      let m = shifted-more (length old) (length new) os 0 (length bytes) p some rise out (none p (omega arith) (omega arith)) in
+      let e : p + 1 + d ≡ p + suc d = omega arith in
+      (ap shift (sym e) ∙ k.0 ∙ (let z : shift (p + 1) + d ≡ shift p + suc d = omega arith in z), subst Out e k.1)
+
+  -- the bytes of the old name at a place
+  name_rest : (ws ys : List ℕ) (q : ℕ) → list_all is_word_byte ws ≡ true → drop q bytes ≡ ws ++ ys → (drop (length ws) (rest bytes q) ≡ rest bytes (q + length ws)) × (text_of (rest bytes q) ≡ ws ++ text_of (rest bytes (q + length ws)))
+  name_rest [] ys q h e = (ap (rest bytes) (let z : q ≡ q + 0 = omega arith in z), ap (λ n. text_of (rest bytes n)) (let z : q ≡ q + 0 = omega arith in z))
+  name_rest (w ∷ ws) ys q h e =
+      let p = and_parts (is_word_byte w) (list_all is_word_byte ws) h in
+      let size : q < length bytes = omega (arith, ap length e, length-drop q bytes) in
+      let here = rest_byte bytes q size (ap join_len e ∙ no_join w (ws ++ ys) (word_is w p.0).0) in
+      let next = drop_more bytes q 0 size in
+      let byte : get_or bytes q 0 ≡ w = cc in
+      let tail : drop (q + 1) bytes ≡ ws ++ ys = cc in
+      let k = name_rest ws ys (q + 1) p.1 tail in
+      let z : q + 1 + length ws ≡ q + length (w ∷ ws) = omega arith in
+      (ap (drop (suc (length ws))) here ∙ k.0 ∙ ap (rest bytes) z, ap text_of here ∙ ap (λ b. b ∷ text_of (rest bytes (q + 1))) byte ∙ ap (λ l. w ∷ l) (k.1 ∙ ap (λ n. ws ++ text_of (rest bytes n)) z))
+
+  place_rest : (p : ℕ) → place p ≡ true → (drop (length old - 1) (rest bytes (p + 1)) ≡ rest bytes (p + length old)) × (text_of (rest bytes p) ≡ old ++ text_of (rest bytes (p + length old)))
+  place_rest p h = by old refl name
+    where
+      by : (xs : List ℕ) → old ≡ xs → is_identifier xs ≡ true → (drop (length old - 1) (rest bytes (p + 1)) ≡ rest bytes (p + length old)) × (text_of (rest bytes p) ≡ old ++ text_of (rest bytes (p + length old)))
+      by [] e k = cc
+      by (x ∷ xs) e k =
+          let all : drop p bytes ≡ (x ∷ xs) ++ drop (length old) (drop p bytes) = sym (take-append-drop (length old) (drop p bytes)) ∙ ap (λ l. l ++ drop (length old) (drop p bytes)) (raw p h ∙ e) in
+          let size : p < length bytes = omega (arith, ap length all, length-drop p bytes) in
+          let next = drop_more bytes p 0 size in
+          let tail : drop (p + 1) bytes ≡ xs ++ drop (length old) (drop p bytes) = cc in
+          let words = identifier_words (x ∷ xs) k in
+          let front = name_rest (x ∷ xs) (drop (length old) (drop p bytes)) p words all in
+          let back = name_rest xs (drop (length old) (drop p bytes)) (p + 1) (and_parts (is_word_byte x) (list_all is_word_byte xs) words).1 tail in
+          let long : length old ≡ suc (length xs) = ap length e in
+          (ap (λ n. drop n (rest bytes (p + 1))) (let z : length old - 1 ≡ length xs = omega arith in z) ∙ back.0 ∙ ap (rest bytes) (let z : p + 1 + length xs ≡ p + length old = omega arith in z),
+          front.1 ∙ ap (λ n. (x ∷ xs) ++ text_of (rest bytes (p + n))) (sym long) ∙ ap (λ l. l ++ text_of (rest bytes (p + length old))) (sym e))
+
+  -- what stands from an offset on, as segments
+  record IsText (from : ℕ) : Type 0 where
+    parts : List Segment
+    words : AreWords parts
+    before : old_text old parts ≡ text_of (rest bytes from)
+    after : new_text parts ≡ text_of (E (rest bytes from))
+
+  not_place : (c : Cell) (cs : List Cell) → place c.at ≡ false → E (c ∷ cs) ≡ moved_to shift c ∷ E cs
+  not_place c cs h = ap (λ t. cond t (name_cells (shift c.at) c.line new ++ edited place shift (length old) new (length old - 1) cs) (moved_to shift c ∷ E cs)) h
+
+  at_place : (c : Cell) (cs : List Cell) → place c.at ≡ true → E (c ∷ cs) ≡ name_cells (shift c.at) c.line new ++ E (drop (length old - 1) cs)
+  at_place c cs h =
+      ap (λ t. cond t (name_cells (shift c.at) c.line new ++ edited place shift (length old) new (length old - 1) cs) (moved_to shift c ∷ E cs)) h
+      ∙ ap (λ l. name_cells (shift c.at) c.line new ++ l) (edited_skip place shift (length old) new (length old - 1) cs)
+
+  text_at : (n from : ℕ) → length bytes - from ≤ n → IsText from
+  text_at zero from size = let e = rest_end bytes from (omega arith) in record { parts = []; words = tt; before = ap text_of (sym e); after = ap (λ cs. text_of (E cs)) (sym e) }
+  text_at (suc n) from size = by (rest bytes from) refl (λ q h. text_at n q h)
+    where
+      by : (cs : List Cell) → rest bytes from ≡ cs → ((q : ℕ) → length bytes - q ≤ n → IsText q) → IsText from
+      by [] e ih = record { parts = []; words = tt; before = ap text_of (sym e); after = ap (λ cs. text_of (E cs)) (sym e) }
+      by (c ∷ cs) e ih = on (place c.at) refl
+        where
+          next : (cs ≡ rest bytes (c.at + 1)) × (c.at < length bytes) × (rest bytes c.at ≡ c ∷ cs)
+          next = rest_next (length bytes - from) bytes from c cs (omega arith) e
+          from_at : from ≤ c.at
+          from_at = (subst (Rising from) e (rest_rises bytes from)).0
+          on : (t : Bool) → place c.at ≡ t → IsText from
+          on false h =
+              let k = ih (c.at + 1) (omega (arith, next.1, from_at)) in
+              record {
+                parts = Stays c.byte ∷ k.parts;
+                words = k.words;
+                before = ap (λ l. c.byte ∷ l) (k.before ∙ ap text_of (sym next.0)) ∙ ap text_of (sym e);
+                after = ap (λ l. c.byte ∷ l) (k.after ∙ ap (λ cs. text_of (E cs)) (sym next.0)) ∙ ap text_of (sym (not_place c cs h)) ∙ ap (λ cs. text_of (E cs)) (sym e);
+              }
+          on true h =
+              let k = ih (c.at + length old) (omega (arith, next.1, from_at, some)) in
+              let p = place_rest c.at h in
+              record {
+                parts = Word new ∷ k.parts;
+                words = (fresh, k.words);
+                before = ap (λ l. old ++ l) k.before ∙ sym p.1 ∙ ap text_of (next.2 ∙ sym e);
+                after =
+                  ap (λ l. new ++ l) k.after
+                  ∙ ap (λ cs. new ++ text_of (E cs)) (sym p.0 ∙ ap (drop (length old - 1)) (sym next.0))
+                  ∙ sym (text_name (shift c.at) c.line new (E (drop (length old - 1) cs)))
+                  ∙ ap text_of (sym (at_place c cs h)) ∙ ap (λ cs. text_of (E cs)) (sym e);
+              }
+
+  -- the tokens that places stand for
+  record IsGood (t : Token) : Type 0 where
+    kind : t.kind ≡ Ident
+    text : t.text ≡ old
+    joined : t.joined ≡ false
+    quote : is_before_quote new (rest bytes t.end) ≡ false
+
+  abbrev Placed : ℕ → List Token → Type 0
+  Placed from ts = (p : ℕ) → from ≤ p → is_among os p ≡ true → (t : Token) × In t ts × (t.at ≡ p) × IsGood t
+
+  must_be_false : (b : Bool) → (b ≡ true → ⊥) → b ≡ false
+  must_be_false true h = absurd (h refl)
+  must_be_false false h = refl
+
+  -- cells that are no places
+  E_front : (k : ℕ) (c0 : ℕ) (cs : List Cell) → Rising c0 cs → NoPlace c0 (behind k c0 cs) → E cs ≡ map (moved_to shift) (take k cs) ++ E (drop k cs)
+  E_front zero c0 cs r none = refl
+  E_front (suc k) c0 [] r none = refl
+  E_front (suc k) c0 (c ∷ cs) r none =
+      let far = Rising-behind k (c.at + 1) cs r.1 in
+      not_place c cs (none c.at r.0 (omega arith)) ∙ ap (λ l. moved_to shift c ∷ l) (E_front k (c.at + 1) cs r.1 (λ p a b. none p (omega (arith, r.0)) b))
+
+  Rising-drop : (k c0 : ℕ) (cs : List Cell) → Rising c0 cs → Rising (behind k c0 cs) (drop k cs)
+  Rising-drop zero c0 cs r = r
+  Rising-drop (suc k) c0 [] r = tt
+  Rising-drop (suc k) c0 (c ∷ cs) r = Rising-drop k (c.at + 1) cs r.1
+
+  -- one part: its first cell, what is behind it, and how many more cells it has
+  module _ (from : ℕ) (b : Before) (c : Cell) (cs : List Cell) (k : ℕ) (here : rest bytes from ≡ c ∷ cs) (fits : k ≤ length cs)
+    (ih : (b : Before) → Placed (behind k (c.at + 1) cs) (cut b zero (drop k cs)).tokens → cut b zero (E (drop k cs)) ≡ renl (cut b zero (drop k cs))) where
+    abbrev end : ℕ
+    end = behind k (c.at + 1) cs
+
+    rises : Rising from (c ∷ cs)
+    rises = subst (Rising from) here (rest_rises bytes from)
+
+    next : (cs ≡ rest bytes (c.at + 1)) × (c.at < length bytes) × (rest bytes c.at ≡ c ∷ cs)
+    next = rest_next (length bytes - from) bytes from c cs (omega arith) here
+
+    abbrev after : Before → Lexed
+    after b2 = cut b2 zero (drop k cs)
+
+    -- tokens behind the part stand behind it
+    later : (b2 : Before) (t : Token) → In t (cut b2 zero (drop k cs)).tokens → behind k (c.at + 1) cs ≤ t.at
+    later b2 t h = tokens_behind b2 zero (behind k (c.at + 1) cs) (drop k cs) t (Rising-drop k (c.at + 1) cs rises.1) h
+
+    E_cut : (b2 : Before) → NoPlace (c.at + 1) (behind k (c.at + 1) cs) → Placed (behind k (c.at + 1) cs) (cut b2 zero (drop k cs)).tokens → cut b2 (suc k - 1) (E cs) ≡ renl (cut b2 (suc k - 1) cs)
+    E_cut b2 none placed =
+        ap (λ n. cut b2 n (E cs)) (let e : suc k - 1 ≡ k = omega arith in e)
+        ∙ skip_cut b2 k (E cs)
+        ∙ ap (λ l. cut b2 zero (drop k l)) (E_front k (c.at + 1) cs rises.1 none)
+        ∙ ap (cut b2 zero) (drop_front (map (moved_to shift) (take k cs)) (E (drop k cs)) k (length-map (take k cs) (moved_to shift) ∙ length-take-le k cs fits))
+        ∙ ih b2 placed
+        ∙ ap renl (sym (skip_cut b2 k cs) ∙ ap (λ n. cut b2 n cs) (let e : k ≡ suc k - 1 = omega arith in e))
