@@ -111,7 +111,7 @@ words_stay : (p : List ℕ) (s : List Segment) → AreWords s → AreWords (stay
 words_stay [] s h = h
 words_stay (b ∷ p) s h = words_stay p s h
 
-take_over : (p xs : List ℕ) (j : ℕ) → take (length p + j) (p ++ xs) ≡ p ++ take j xs
+pub take_over : (p xs : List ℕ) (j : ℕ) → take (length p + j) (p ++ xs) ≡ p ++ take j xs
 take_over [] xs j = ap (λ n. take n xs) (omega arith)
 take_over (b ∷ p) xs j = ap (λ n. take n (b ∷ p ++ xs)) (let e : length (b ∷ p) + j ≡ suc (length p + j) = omega arith in e) ∙ ap (λ l. b ∷ l) (take_over p xs j)
 

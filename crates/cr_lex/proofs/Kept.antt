@@ -8,13 +8,14 @@ use Rattle.std.proofs.lemmas.List.{map-append, take-map, length-map}
 use Rattle.cr_base.specs.Names.{is_identifier, is_word_byte, starts_name}
 use Rattle.cr_base.specs.Substitution.{Rise, shifted}
 use Rattle.cr_base.specs.declared.token.PpKind.{PpKind}
-use Rattle.cr_base.specs.declared.token.PpKind.TheVariants.{Ident}
-use Rattle.cr_lex.specs.Spellings.{Part, Piece}
+use Rattle.cr_base.specs.declared.token.PpKind.TheVariants.{Ident, Char, Str, Stray}
+use Rattle.cr_lex.specs.Spellings.{Part, Piece, part_of}
 use Rattle.cr_lex.specs.Spellings as spellings
 use Rattle.cr_lex.specs.Joins.{Cell, text_of, begins, join_len}
 use Rattle.cr_lex.specs.Lexing.{Token, Lexed, Fault, Before, longest_part, by_part, piece, cut, stop, token, with_token, unless_trigraph, first_trigraph, end_of}
 use Rattle.cr_lex.specs.Lexing as lexing
 use Rattle.cr_lex.specs.Scanning.{rest, behind}
+use Rattle.cr_lex.specs.Standing.{in_line}
 use Rattle.cr_lex.specs.Renaming.{is_among, is_before_quote, shifted_fault, could_prefix}
 use Rattle.cr_lex.proofs.Marks.{Rising, sooner, rest_rises}
 use Rattle.cr_lex.proofs.First.{cut_one, cut_none, skip_cut, rest_next, rest_behind, ends_behind, Rising-behind}
@@ -24,7 +25,9 @@ use Rattle.cr_lex.proofs.Shifting.{IsOut, shifted-more, shifted-place, out_more,
 use Rattle.cr_lex.proofs.Cells.{rest_byte, rest_end}
 use Rattle.std.proofs.lemmas.List.{drop_more}
 use Rattle.std.proofs.Math.Seq.{take-append_seam, drop-append_seam}
-use Rattle.cr_lex.proofs.Keeping.{longest_kept, longest_name, Ends, stays, old_stays, new_stays}
+use Rattle.cr_lex.proofs.Keeping.{longest_kept, longest_name, longest_gives, Hit, Missed, take_over, Ends, stays, old_stays, new_stays}
+use Rattle.cr_lex.proofs.Words.{word_by, word_char, word_string}
+use Rattle.std.proofs.lemmas.List.Folds.{list_all-append}
 
 -- a token is one of these
 abbrev pub In : Token → List Token → Type 0
@@ -111,6 +114,37 @@ drop_front xs ys k e = ap (λ n. drop n (xs ++ ys)) (sym e) ∙ drop-append_seam
 end_moved : (shift : ℕ → ℕ) (c : Cell) (cs : List Cell) (e : ℕ) → end_of (c ∷ cs) ≡ suc e → end_of (map (moved_to shift) (c ∷ cs)) ≡ shift e + 1
 end_moved shift c [] e h = ap (λ x. shift x + 1) (let q : c.at ≡ e = omega arith in q)
 end_moved shift c (d ∷ cs) e h = end_moved shift d cs e h
+
+name_text : (at line : ℕ) (ws : List ℕ) → text_of (name_cells at line ws) ≡ ws
+name_text at line [] = refl
+name_text at line (w ∷ ws) = ap (λ l. w ∷ l) (name_text (at + 1) line ws)
+
+head_word : (xs : List ℕ) → is_identifier xs ≡ true → (b : ℕ) (bs ys : List ℕ) → b ∷ bs ≡ xs ++ ys → is_word_byte b ≡ true
+head_word [] h b bs ys e = cc
+head_word (x ∷ xs) h b bs ys e =
+    let same : b ≡ x = cc in
+    ap is_word_byte same ∙ (and_parts (is_word_byte x) (list_all is_word_byte xs) (identifier_words (x ∷ xs) h)).0
+
+-- a name, cut before what doesn't go on with it
+name_cut : (b : Before) (w : ℕ) (ws : List ℕ) (at line : ℕ) (cs : List Cell) → is_identifier (w ∷ ws) ≡ true → Ends (w ∷ ws) (text_of cs)
+    → cut b zero (name_cells at line (w ∷ ws) ++ cs) ≡ with_token (token b Ident (record { byte = w; at = at; line = line; trigraph = false }) (name_cells at line (w ∷ ws))) (cut in_line zero cs)
+name_cut b w ws at line cs h ends =
+    cut_one b (record { byte = w; at = at; line = line; trigraph = false }) (name_cells (at + 1) line ws ++ cs)
+    ∙ ap (by_part b (record { byte = w; at = at; line = line; trigraph = false }) (name_cells (at + 1) line ws ++ cs) (λ after n. cut after n (name_cells (at + 1) line ws ++ cs)))
+      (ap (λ l. longest_part (w ∷ l)) (text_name (at + 1) line ws cs) ∙ longest_name (w ∷ ws) (text_of cs) h ends)
+    ∙ ap (λ t. cond (t && begins (codes "*") (text_of (name_cells (at + 1) line ws ++ cs))) (stop (lexing.OpenComment at)) (unless_trigraph (with_token (token b Ident (record { byte = w; at = at; line = line; trigraph = false }) (take (suc (length ws)) (name_cells at line (w ∷ ws) ++ cs))) (cut in_line (suc (length ws) - 1) (name_cells (at + 1) line ws ++ cs))) (first_trigraph (take (suc (length ws)) (name_cells at line (w ∷ ws) ++ cs))))) (slash w (and_parts (starts_name w) (list_all is_word_byte ws) h).0)
+    ∙ ap (λ l. unless_trigraph (with_token (token b Ident (record { byte = w; at = at; line = line; trigraph = false }) l) (cut in_line (suc (length ws) - 1) (name_cells (at + 1) line ws ++ cs))) (first_trigraph l)) (take_name at line (w ∷ ws) cs)
+    ∙ ap (unless_trigraph (with_token (token b Ident (record { byte = w; at = at; line = line; trigraph = false }) (name_cells at line (w ∷ ws))) (cut in_line (suc (length ws) - 1) (name_cells (at + 1) line ws ++ cs)))) (no_trigraph at line (w ∷ ws))
+    ∙ ap (with_token (token b Ident (record { byte = w; at = at; line = line; trigraph = false }) (name_cells at line (w ∷ ws))))
+      (ap (λ n. cut in_line n (name_cells (at + 1) line ws ++ cs)) (let e : suc (length ws) - 1 ≡ length ws = omega arith in e)
+      ∙ skip_cut in_line (length ws) (name_cells (at + 1) line ws ++ cs)
+      ∙ ap (cut in_line zero) (drop_names ws (at + 1) line cs))
+  where
+    slash : (w : ℕ) → starts_name w ≡ true → (47 == w) ≡ false
+    slash w h = ne_eqb 47 w (λ e. let bad : true ≡ false = sym h ∙ ap starts_name (sym e) in cc)
+    drop_names : (ws : List ℕ) (at line : ℕ) (cs : List Cell) → drop (length ws) (name_cells at line ws ++ cs) ≡ cs
+    drop_names [] at line cs = refl
+    drop_names (w ∷ ws) at line cs = drop_names ws (at + 1) line cs
 
 module _ (bytes old new : List ℕ) (os : List ℕ) (name : is_identifier old ≡ true) (fresh : is_identifier new ≡ true) (rise : Rise 0 os (length old) (length bytes))
   (raw : (p : ℕ) → is_among os p ≡ true → take (length old) (drop p bytes) ≡ old) where
@@ -285,3 +319,272 @@ module _ (bytes old new : List ℕ) (os : List ℕ) (name : is_identifier old �
         ∙ ap (cut b2 zero) (drop_front (map (moved_to shift) (take k cs)) (E (drop k cs)) k (length-map (take k cs) (moved_to shift) ∙ length-take-le k cs fits))
         ∙ ih b2 placed
         ∙ ap renl (sym (skip_cut b2 k cs) ∙ ap (λ n. cut b2 n cs) (let e : k ≡ suc k - 1 = omega arith in e))
+
+    end_is : rest bytes (behind k (c.at + 1) cs) ≡ drop k cs
+    end_is = ap (λ l. rest bytes (behind k (c.at + 1) l)) next.0 ∙ rest_behind bytes k (c.at + 1) ∙ ap (drop k) (sym next.0)
+
+    tail : IsText (behind k (c.at + 1) cs)
+    tail = text_at (length bytes) (behind k (c.at + 1) cs) (omega arith)
+
+    abbrev front : List ℕ
+    front = text_of (take k cs)
+
+    long : length (text_of (take k cs)) ≡ k
+    long = length-map (take k cs) (λ (x : Cell). x.byte) ∙ length-take-le k cs fits
+
+    before_is : text_of cs ≡ text_of (take k cs) ++ old_text old tail.parts
+    before_is =
+        ap text_of (sym (take-append-drop k cs)) ∙ map-append (λ (x : Cell). x.byte) (take k cs) (drop k cs)
+        ∙ ap (λ l. text_of (take k cs) ++ l) (ap text_of (sym end_is) ∙ sym tail.before)
+
+    after_is : NoPlace (c.at + 1) (behind k (c.at + 1) cs) → text_of (E cs) ≡ text_of (take k cs) ++ new_text tail.parts
+    after_is none =
+        ap text_of (E_front k (c.at + 1) cs rises.1 none)
+        ∙ map-append (λ (x : Cell). x.byte) (map (moved_to shift) (take k cs)) (E (drop k cs))
+        ∙ ap (λ l. l ++ text_of (E (drop k cs))) (text_moved shift (take k cs))
+        ∙ ap (λ l. text_of (take k cs) ++ l) (ap (λ l. text_of (E l)) (sym end_is) ∙ sym tail.after)
+
+    kept_longest : (part : Part) → NoPlace (c.at + 1) (behind k (c.at + 1) cs) → longest_part (text_of (c ∷ cs)) ≡ (suc k, part) → longest_part (text_of (moved_to shift c ∷ E cs)) ≡ (suc k, part)
+    kept_longest part none e =
+        ap (λ l. longest_part (c.byte ∷ l)) (after_is none)
+        ∙ longest_kept old name c.byte (text_of (take k cs)) tail.parts part tail.words
+          (ap (λ l. longest_part (c.byte ∷ l)) (sym before_is) ∙ e ∙ ap (λ n. (suc n, part)) (sym long))
+        ∙ ap (λ n. (suc n, part)) long
+
+    words_stay : (p : List ℕ) (s : List Segment) → AreWords s → AreWords (stays p s)
+    words_stay [] s h = h
+    words_stay (x ∷ p) s h = words_stay p s h
+
+    kept_open : NoPlace (c.at + 1) (behind k (c.at + 1) cs) → begins (codes "/*") (text_of (moved_to shift c ∷ E cs)) ≡ begins (codes "/*") (text_of (c ∷ cs))
+    kept_open none =
+        ap (λ l. begins (codes "/*") (c.byte ∷ l)) (after_is none ∙ sym (new_stays (text_of (take k cs)) tail.parts))
+        ∙ sym (same_open old name c.byte (stays (text_of (take k cs)) tail.parts) (words_stay (text_of (take k cs)) tail.parts tail.words))
+        ∙ ap (λ l. begins (codes "/*") (c.byte ∷ l)) (old_stays old (text_of (take k cs)) tail.parts ∙ sym before_is)
+
+    -- where there is no place
+    far : c.at + 1 ≤ behind k (c.at + 1) cs
+    far = Rising-behind k (c.at + 1) cs rises.1
+
+    none_left : Placed from [] → (q : ℕ) → NoPlace from q
+    none_left placed q p a b = must_be_false (is_among os p) (λ h. (placed p a h).1)
+
+    none_behind : (b2 : Before) → Placed from (cut b2 zero (drop k cs)).tokens → NoPlace from (behind k (c.at + 1) cs)
+    none_behind b2 placed p a l = must_be_false (is_among os p) (λ h. let w = placed p a h in let g = later b2 w.0 w.1 in let e = w.2 in absurd (omega arith))
+
+    none_inside : (b2 : Before) (t : Token) → t.at ≡ c.at → Placed from (t ∷ (cut b2 zero (drop k cs)).tokens) → NoPlace (c.at + 1) (behind k (c.at + 1) cs)
+    none_inside b2 t e placed p a l = must_be_false (is_among os p) (λ h. by (placed p (omega (arith, rises.0)) h))
+      where
+        by : ((u : Token) × In u (t ∷ (cut b2 zero (drop k cs)).tokens) × (u.at ≡ p) × IsGood u) → ⊥
+        by (u, inl same, at, good) = let q : u.at ≡ c.at = ap (λ x. x.at) (sym same) ∙ e in absurd (omega arith)
+        by (u, inr h, at, good) = let g = later b2 u h in absurd (omega arith)
+
+    placed_behind : (b2 : Before) → Placed from (cut b2 zero (drop k cs)).tokens → Placed (behind k (c.at + 1) cs) (cut b2 zero (drop k cs)).tokens
+    placed_behind b2 placed p a h = placed p (omega (arith, rises.0, far)) h
+
+    placed_rest : (b2 : Before) (t : Token) → t.at ≡ c.at → Placed from (t ∷ (cut b2 zero (drop k cs)).tokens) → Placed (behind k (c.at + 1) cs) (cut b2 zero (drop k cs)).tokens
+    placed_rest b2 t e placed p a h = by (placed p (omega (arith, rises.0, far)) h)
+      where
+        by : ((u : Token) × In u (t ∷ (cut b2 zero (drop k cs)).tokens) × (u.at ≡ p) × IsGood u) → (u : Token) × In u (cut b2 zero (drop k cs)).tokens × (u.at ≡ p) × IsGood u
+        by (u, inl same, at, good) = let q : u.at ≡ c.at = ap (λ x. x.at) (sym same) ∙ e in absurd (omega (arith, far))
+        by (u, inr h, at, good) = (u, h, at, good)
+
+    cut_after : (b2 : Before) → cut b2 (suc k - 1) cs ≡ cut b2 zero (drop k cs)
+    cut_after b2 = ap (λ n. cut b2 n cs) (let e : suc k - 1 ≡ k = omega arith in e) ∙ skip_cut b2 k cs
+
+    -- white space
+    kept_space : (b2 : Before) (part : Part) → ((l : List Cell) (d : Cell) → by_part b d l (λ after n. cut after n l) (suc k, part) ≡ cut b2 (suc k - 1) l)
+        → longest_part (text_of (c ∷ cs)) ≡ (suc k, part) → Placed from (cut b2 (suc k - 1) cs).tokens → cut b zero (E (c ∷ cs)) ≡ renl (cut b2 (suc k - 1) cs)
+    kept_space b2 part same e placed =
+        let at_end = subst (λ l. Placed from l.tokens) (cut_after b2) placed in
+        let none = none_behind b2 at_end in
+        let inner : NoPlace (c.at + 1) (behind k (c.at + 1) cs) = λ p a l. none p (omega (arith, rises.0)) l in
+        ap (cut b zero) (not_place c cs (none c.at rises.0 (omega (arith, far))))
+        ∙ cut_one b (moved_to shift c) (E cs)
+        ∙ ap (by_part b (moved_to shift c) (E cs) (λ after n. cut after n (E cs))) (kept_longest part inner e)
+        ∙ same (E cs) (moved_to shift c)
+        ∙ E_cut b2 inner (placed_behind b2 at_end)
+
+    -- tokens that stay
+    own_is : NoPlace (c.at + 1) (behind k (c.at + 1) cs) → take (suc k) (moved_to shift c ∷ E cs) ≡ map (moved_to shift) (c ∷ take k cs)
+    own_is none = ap (λ l. moved_to shift c ∷ l) (ap (take k) (E_front k (c.at + 1) cs rises.1 none) ∙ take_front (map (moved_to shift) (take k cs)) (E (drop k cs)) k (length-map (take k cs) (moved_to shift) ∙ length-take-le k cs fits))
+
+    abbrev made : PpKind → List ℕ → ℕ → Bool → Token
+    made kind text last inside = record { kind = kind; text = text; at = shift c.at; end = last; line = c.line; space = b.space; first = b.first; joined = inside }
+
+    -- the first cell stands in no replaced name
+    kept_token : (kind : PpKind) → Out c.at → place c.at ≡ false → NoPlace (c.at + 1) (behind k (c.at + 1) cs) → token b kind (moved_to shift c) (map (moved_to shift) (c ∷ take k cs)) ≡ ren (token b kind c (c ∷ take k cs))
+    kept_token kind out stay none =
+        ap₅ (text_moved shift (c ∷ take k cs) ∙ sym (ap (λ t. if t then new else text_of (c ∷ take k cs)) stay)) ends alike
+      where
+        at_end : end_of (c ∷ take k cs) ≡ behind k (c.at + 1) cs
+        at_end = ends_behind k c cs
+        d : ℕ
+        d = behind k (c.at + 1) cs - c.at - 1
+        inside : (x : ℕ) → x ≤ behind k (c.at + 1) cs - c.at → (shift (c.at + x) ≡ shift c.at + x) × Out (c.at + x)
+        inside x l = shift_run x c.at out (λ p a g. elim (cases_eq p c.at) [ inl e ↦ ap (is_among os) e ∙ stay | inr ne ↦ none p (omega arith) (omega (arith, far)) ])
+        ends : end_of (map (moved_to shift) (c ∷ take k cs)) ≡ shift (end_of (c ∷ take k cs))
+        ends =
+            let x : ℕ = behind k (c.at + 1) cs - c.at - 1 in
+            let last = inside (behind k (c.at + 1) cs - c.at - 1) (omega arith) in
+            let all = inside (behind k (c.at + 1) cs - c.at) (omega arith) in
+            let z : c.at + (behind k (c.at + 1) cs - c.at) ≡ end_of (c ∷ take k cs) = omega (arith, far, at_end) in
+            end_moved shift c (take k cs) (c.at + (behind k (c.at + 1) cs - c.at - 1)) (omega (arith, far, at_end))
+            ∙ (let y : shift (c.at + (behind k (c.at + 1) cs - c.at - 1)) + 1 ≡ shift (c.at + (behind k (c.at + 1) cs - c.at)) = omega (arith, last.0, all.0, far) in y)
+            ∙ ap shift z
+        alike : not (end_of (map (moved_to shift) (c ∷ take k cs)) == shift c.at + length (map (moved_to shift) (c ∷ take k cs))) ≡ not (end_of (c ∷ take k cs) == c.at + length (c ∷ take k cs))
+        alike =
+            let all = inside (behind k (c.at + 1) cs - c.at) (omega arith) in
+            let z : c.at + (behind k (c.at + 1) cs - c.at) ≡ end_of (c ∷ take k cs) = omega (arith, far, at_end) in
+            let moved : shift (end_of (c ∷ take k cs)) ≡ shift c.at + (behind k (c.at + 1) cs - c.at) = ap shift (sym z) ∙ all.0 in
+            let size : length (map (moved_to shift) (c ∷ take k cs)) ≡ length (c ∷ take k cs) = length-map (c ∷ take k cs) (moved_to shift) in
+            ap not (same_test _ _ _ _ (omega (arith, ends, moved, size, at_end, far)))
+          where
+            same_test : (p q r s : ℕ) → (p + s ≡ r + q) → (p == q) ≡ (r == s)
+            same_test p q r s e = elim (cases_eq p q) [
+                inl x ↦ eq-eqb p q x ∙ sym (eq-eqb r s (omega arith))
+              | inr x ↦ ne_eqb p q x ∙ sym (ne_eqb r s (λ y. x (omega arith)))
+              ]
+        ap₅ : text_of (map (moved_to shift) (c ∷ take k cs)) ≡ (if is_among os c.at then new else text_of (c ∷ take k cs)) → end_of (map (moved_to shift) (c ∷ take k cs)) ≡ shift (end_of (c ∷ take k cs))
+            → not (end_of (map (moved_to shift) (c ∷ take k cs)) == shift c.at + length (map (moved_to shift) (c ∷ take k cs))) ≡ not (end_of (c ∷ take k cs) == c.at + length (c ∷ take k cs))
+            → token b kind (moved_to shift c) (map (moved_to shift) (c ∷ take k cs)) ≡ ren (token b kind c (c ∷ take k cs))
+        ap₅ e f g =
+            ap (λ x. made kind x (end_of (map (moved_to shift) (c ∷ take k cs))) (not (end_of (map (moved_to shift) (c ∷ take k cs)) == shift c.at + length (map (moved_to shift) (c ∷ take k cs))))) e
+            ∙ ap (λ x. made kind (if is_among os c.at then new else text_of (c ∷ take k cs)) x (not (end_of (map (moved_to shift) (c ∷ take k cs)) == shift c.at + length (map (moved_to shift) (c ∷ take k cs))))) f
+            ∙ ap (made kind (if is_among os c.at then new else text_of (c ∷ take k cs)) (shift (end_of (c ∷ take k cs)))) g
+
+    -- a token, or a fault in its place
+    abbrev chosen : Bool → Option ℕ → Token → Lexed → Lexed
+    chosen opened found t rest = cond opened (stop (lexing.OpenComment c.at)) (unless_trigraph (with_token t rest) found)
+
+    abbrev chosen_after : Bool → Option ℕ → Token → Lexed → Lexed
+    chosen_after opened found t rest = cond opened (stop (lexing.OpenComment (shift c.at))) (unless_trigraph (with_token t rest) found)
+
+    kept_piece : (kind : PpKind) → Out c.at → longest_part (text_of (c ∷ cs)) ≡ (suc k, Piece kind)
+        → place c.at ≡ false → NoPlace (c.at + 1) (behind k (c.at + 1) cs)
+        → (opened : Bool) (found : Option ℕ) → begins (codes "/*") (text_of (c ∷ cs)) ≡ opened → first_trigraph (c ∷ take k cs) ≡ found
+        → (opened ≡ false → found ≡ None → Placed (behind k (c.at + 1) cs) (cut (record { first = false; space = false }) zero (drop k cs)).tokens)
+        → cut b zero (E (c ∷ cs)) ≡ renl (chosen opened found (token b kind c (c ∷ take k cs)) (cut (record { first = false; space = false }) (suc k - 1) cs))
+    kept_piece kind out e stay none opened found eo ef placed =
+        ap (cut b zero) (not_place c cs stay)
+        ∙ cut_one b (moved_to shift c) (E cs)
+        ∙ ap (by_part b (moved_to shift c) (E cs) (λ after n. cut after n (E cs))) (kept_longest (Piece kind) none e)
+        ∙ ap (λ o. chosen_after (begins (codes "/*") (text_of (moved_to shift c ∷ E cs))) (first_trigraph o) (token b kind (moved_to shift c) o) (cut in_line (suc k - 1) (E cs))) (own_is none)
+        ∙ ap (λ x. chosen_after x (first_trigraph (map (moved_to shift) (c ∷ take k cs))) (token b kind (moved_to shift c) (map (moved_to shift) (c ∷ take k cs))) (cut in_line (suc k - 1) (E cs))) (kept_open none ∙ eo)
+        ∙ ap (λ x. chosen_after opened x (token b kind (moved_to shift c) (map (moved_to shift) (c ∷ take k cs))) (cut in_line (suc k - 1) (E cs))) (trigraph_moved shift (c ∷ take k cs) ∙ ap (option_map shift) ef)
+        ∙ by opened found placed
+      where
+        by : (opened : Bool) (found : Option ℕ) → (opened ≡ false → found ≡ None → Placed (behind k (c.at + 1) cs) (cut (record { first = false; space = false }) zero (drop k cs)).tokens)
+            → chosen_after opened (option_map shift found) (token b kind (moved_to shift c) (map (moved_to shift) (c ∷ take k cs))) (cut in_line (suc k - 1) (E cs))
+              ≡ renl (chosen opened found (token b kind c (c ∷ take k cs)) (cut in_line (suc k - 1) cs))
+        by true found placed = refl
+        by false (Some at) placed = refl
+        by false None placed =
+            ap (λ t. with_token t (cut in_line (suc k - 1) (E cs))) (kept_token kind out stay none)
+            ∙ ap (with_token (ren (token b kind c (c ∷ take k cs)))) (E_cut in_line none (placed refl refl))
+
+    -- the new name in the place of a token
+    renamed_piece : (kind : PpKind) → longest_part (text_of (c ∷ cs)) ≡ (suc k, Piece kind) → place c.at ≡ true → IsGood (token b kind c (c ∷ take k cs))
+        → Placed (behind k (c.at + 1) cs) (cut in_line zero (drop k cs)).tokens
+        → cut b zero (E (c ∷ cs)) ≡ renl (with_token (token b kind c (c ∷ take k cs)) (cut in_line (suc k - 1) cs))
+    renamed_piece kind e hit good placed = by new refl fresh
+      where
+        at_end : end_of (c ∷ take k cs) ≡ behind k (c.at + 1) cs
+        at_end = ends_behind k c cs
+        spelled : c.byte ∷ text_of (take k cs) ≡ old
+        spelled = good.text
+        size : length old ≡ suc k
+        size = ap length (sym good.text) ∙ ap suc long
+        stands : end_of (c ∷ take k cs) ≡ c.at + length old
+        stands =
+            let t : (end_of (c ∷ take k cs) == c.at + length (c ∷ take k cs)) ≡ true = not_not (end_of (c ∷ take k cs) == c.at + length (c ∷ take k cs)) good.joined in
+            eqb-true (end_of (c ∷ take k cs)) (c.at + length (c ∷ take k cs)) t ∙ ap (λ n. c.at + n) (ap suc (length-take-le k cs fits) ∙ sym size)
+          where
+            not_not : (t : Bool) → not t ≡ false → t ≡ true
+            not_not true h = refl
+            not_not false h = cc
+        word : (starts_name c.byte ≡ true) × (list_all is_word_byte (text_of (take k cs)) ≡ true)
+        word = and_parts (starts_name c.byte) (list_all is_word_byte (text_of (take k cs))) (ap is_identifier spelled ∙ name)
+        E_is : E (c ∷ cs) ≡ name_cells (shift c.at) c.line new ++ E (drop k cs)
+        E_is = at_place c cs hit ∙ ap (λ n. name_cells (shift c.at) c.line new ++ E (drop n cs)) (let z : length old - 1 ≡ k = omega (arith, size) in z)
+        no_word : (d : Cell) (ds : List Cell) → drop k cs ≡ d ∷ ds → is_word_byte d.byte ≡ false
+        no_word d ds f = must_be_false (is_word_byte d.byte) (λ w. on w (longest_gives (length (text_of (c ∷ cs))) (text_of (c ∷ cs)) (suc k) (Piece kind) e))
+          where
+            all : text_of cs ≡ text_of (take k cs) ++ (d.byte ∷ text_of ds)
+            all = ap text_of (sym (take-append-drop k cs)) ∙ map-append (λ (x : Cell). x.byte) (take k cs) (drop k cs) ∙ ap (λ l. text_of (take k cs) ++ text_of l) f
+            more : take (suc (suc k)) (text_of (c ∷ cs)) ≡ c.byte ∷ (text_of (take k cs) ++ d.byte ∷ [])
+            more = ap (λ l. c.byte ∷ l) (ap (take (suc k)) all ∙ ap (λ n. take n (text_of (take k cs) ++ (d.byte ∷ text_of ds))) (let z : suc k ≡ length (text_of (take k cs)) + 1 = omega (arith, long) in z) ∙ take_over (text_of (take k cs)) (d.byte ∷ text_of ds) 1)
+            ident : is_word_byte d.byte ≡ true → part_of (take (suc (suc k)) (text_of (c ∷ cs))) ≡ Some (Piece Ident)
+            ident w =
+                ap part_of more ∙ word_by c.byte (text_of (take k cs) ++ d.byte ∷ []) word.0
+                ∙ ap (λ t. if t then Some (Piece Ident) else if word_char c.byte (text_of (take k cs) ++ d.byte ∷ []) then Some (Piece Char) else if word_string c.byte (text_of (take k cs) ++ d.byte ∷ []) then Some (Piece Str) else None)
+                  (list_all-append is_word_byte (text_of (take k cs)) (d.byte ∷ []) ∙ ap (λ t. t && (is_word_byte d.byte && true)) word.1 ∙ ap (λ t. t && true) w)
+            on : is_word_byte d.byte ≡ true → Hit (length (text_of (c ∷ cs))) (text_of (c ∷ cs)) (suc k) (Piece kind) ⊎ Missed (length (text_of (c ∷ cs))) (text_of (c ∷ cs)) (suc k) (Piece kind) → ⊥
+            on w (inl (x, y, z, none)) =
+                let i : suc (suc k) ≤ length (text_of (c ∷ cs)) = omega (arith, ap length all, length-append (text_of (take k cs)) (d.byte ∷ text_of ds), long) in
+                let bad : Some (Piece Ident) ≡ None = sym (ident w) ∙ none (suc (suc k)) (omega arith) i in cc
+            on w (inr (x, stray, none)) = let bad : Piece Ident ≡ Piece Stray = ap Piece (sym good.kind) ∙ stray in cc
+        ends : (ds : List Cell) → drop k cs ≡ ds → Ends new (text_of (E ds))
+        ends [] f = tt
+        ends (d ∷ ds) f =
+            let w = no_word d ds f in
+            let q : could_prefix new d.byte ≡ false = ap (is_before_quote new) (sym f ∙ sym end_is ∙ ap (rest bytes) (sym at_end)) ∙ good.quote in
+            subst (λ l. Ends new (text_of l)) (sym (not_place d ds (stay d ds f w))) (w, q)
+          where
+            stay : (d : Cell) (ds : List Cell) → drop k cs ≡ d ∷ ds → is_word_byte d.byte ≡ false → is_among os d.at ≡ false
+            stay d ds f w = must_be_false (is_among os d.at) (λ h.
+                let n = rest_next (length bytes - behind k (c.at + 1) cs) bytes (behind k (c.at + 1) cs) d ds (omega arith) (end_is ∙ f) in
+                let t : d.byte ∷ text_of ds ≡ old ++ text_of (rest bytes (d.at + length old)) = ap text_of (sym n.2) ∙ (place_rest d.at h).1 in
+                let l : is_word_byte d.byte ≡ true = head_word old name d.byte (text_of ds) (text_of (rest bytes (d.at + length old))) t in
+                let bad : true ≡ false = sym l ∙ w in cc)
+        by : (xs : List ℕ) → new ≡ xs → is_identifier xs ≡ true → cut b zero (E (c ∷ cs)) ≡ renl (with_token (token b kind c (c ∷ take k cs)) (cut in_line (suc k - 1) cs))
+        by [] q f = cc
+        by (w ∷ ws) q f =
+            ap (cut b zero) (E_is ∙ ap (λ l. name_cells (shift c.at) c.line l ++ E (drop k cs)) q)
+            ∙ name_cut b w ws (shift c.at) c.line (E (drop k cs)) f (subst (λ l. Ends l (text_of (E (drop k cs)))) q (ends (drop k cs) refl))
+            ∙ ap (λ t. with_token t (cut in_line zero (E (drop k cs)))) same
+            ∙ ap (with_token (ren (token b kind c (c ∷ take k cs)))) (ih in_line placed ∙ ap renl (sym (cut_after in_line)))
+          where
+            place_end : shift (end_of (c ∷ take k cs)) ≡ shift c.at + length (w ∷ ws)
+            place_end = ap shift stands ∙ shifted-place (length old) (length new) os 0 (length bytes) c.at some rise hit ∙ ap (λ l. shift c.at + length l) q
+            same : token b Ident (record { byte = w; at = shift c.at; line = c.line; trigraph = false }) (name_cells (shift c.at) c.line (w ∷ ws)) ≡ ren (token b kind c (c ∷ take k cs))
+            same =
+                ap (λ x. made x (text_of (name_cells (shift c.at) c.line (w ∷ ws))) (end_of (name_cells (shift c.at) c.line (w ∷ ws))) (not (end_of (name_cells (shift c.at) c.line (w ∷ ws)) == shift c.at + length (name_cells (shift c.at) c.line (w ∷ ws))))) (sym good.kind)
+                ∙ ap (λ x. made kind x (end_of (name_cells (shift c.at) c.line (w ∷ ws))) (not (end_of (name_cells (shift c.at) c.line (w ∷ ws)) == shift c.at + length (name_cells (shift c.at) c.line (w ∷ ws)))))
+                  (name_text (shift c.at) c.line (w ∷ ws) ∙ sym q ∙ sym (ap (λ t. if t then new else text_of (c ∷ take k cs)) hit))
+                ∙ ap (λ x. made kind (if is_among os c.at then new else text_of (c ∷ take k cs)) x (not (end_of (name_cells (shift c.at) c.line (w ∷ ws)) == shift c.at + length (name_cells (shift c.at) c.line (w ∷ ws)))))
+                  (name_end (shift c.at) c.line w ws ∙ sym place_end)
+                ∙ ap (made kind (if is_among os c.at then new else text_of (c ∷ take k cs)) (shift (end_of (c ∷ take k cs))))
+                  (ap not (eq-eqb (end_of (name_cells (shift c.at) c.line (w ∷ ws))) (shift c.at + length (name_cells (shift c.at) c.line (w ∷ ws))) (name_end (shift c.at) c.line w ws ∙ ap (λ n. shift c.at + n) (sym (name_length (shift c.at) c.line (w ∷ ws))))) ∙ sym good.joined)
+
+    kept_part : (part : Part) → Out c.at → longest_part (text_of (c ∷ cs)) ≡ (suc k, part)
+        → Placed from (by_part b c cs (λ after n. cut after n cs) (suc k, part)).tokens
+        → cut b zero (E (c ∷ cs)) ≡ renl (by_part b c cs (λ after n. cut after n cs) (suc k, part))
+    kept_part spellings.Blank out e placed = kept_space (record b { space = true }) spellings.Blank (λ l d. refl) e placed
+    kept_part spellings.Comment out e placed = kept_space (record b { space = true }) spellings.Comment (λ l d. refl) e placed
+    kept_part spellings.LineEnd out e placed = kept_space (record { first = true; space = true }) spellings.LineEnd (λ l d. refl) e placed
+    kept_part (Piece kind) out e placed = by (begins (codes "/*") (text_of (c ∷ cs))) (first_trigraph (c ∷ take k cs)) refl refl placed
+      where
+        by : (opened : Bool) (found : Option ℕ) → begins (codes "/*") (text_of (c ∷ cs)) ≡ opened → first_trigraph (c ∷ take k cs) ≡ found
+            → Placed from (chosen opened found (token b kind c (c ∷ take k cs)) (cut in_line (suc k - 1) cs)).tokens
+            → cut b zero (E (c ∷ cs)) ≡ renl (chosen opened found (token b kind c (c ∷ take k cs)) (cut in_line (suc k - 1) cs))
+        by true found eo ef placed =
+            let none = none_left placed (behind k (c.at + 1) cs) in
+            kept_piece kind out e (none c.at rises.0 (omega (arith, far))) (λ p a l. none p (omega (arith, rises.0)) l) true found eo ef (λ f. cc)
+        by false (Some at) eo ef placed =
+            let none = none_left placed (behind k (c.at + 1) cs) in
+            kept_piece kind out e (none c.at rises.0 (omega (arith, far))) (λ p a l. none p (omega (arith, rises.0)) l) false (Some at) eo ef (λ f g. cc)
+        by false None eo ef placed = on (is_among os c.at) refl
+          where
+            t0 : Token
+            t0 = token b kind c (c ∷ take k cs)
+            at_end : Placed from (token b kind c (c ∷ take k cs) ∷ (cut in_line zero (drop k cs)).tokens)
+            at_end = subst (λ l. Placed from (token b kind c (c ∷ take k cs) ∷ l.tokens)) (cut_after in_line) placed
+            behind_it : Placed (behind k (c.at + 1) cs) (cut in_line zero (drop k cs)).tokens
+            behind_it = placed_rest in_line (token b kind c (c ∷ take k cs)) refl at_end
+            on : (x : Bool) → is_among os c.at ≡ x → cut b zero (E (c ∷ cs)) ≡ renl (with_token (token b kind c (c ∷ take k cs)) (cut in_line (suc k - 1) cs))
+            on false h = kept_piece kind out e h (none_inside in_line (token b kind c (c ∷ take k cs)) refl at_end) false None eo ef (λ f g. behind_it)
+            on true h = renamed_piece kind e h (this (at_end c.at rises.0 h)) behind_it
+              where
+                this : ((u : Token) × In u (token b kind c (c ∷ take k cs) ∷ (cut in_line zero (drop k cs)).tokens) × (u.at ≡ c.at) × IsGood u) → IsGood (token b kind c (c ∷ take k cs))
+                this (u, inl same, at, good) = subst IsGood (sym same) good
+                this (u, inr i, at, good) = let g = later in_line u i in absurd (omega (arith, far))
