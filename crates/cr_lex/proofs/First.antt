@@ -29,22 +29,22 @@ unfolding cut
 cut_none before = refl
 
 -- what follows the first cell from an offset on
-pub rest_next : (n : ℕ) (bytes : List ℕ) (from : ℕ) (c : Cell) (cs : List Cell) → length bytes - from ≤ n → rest bytes from ≡ c ∷ cs → (cs ≡ rest bytes (c.at + 1)) × (c.at < length bytes) × (rest bytes c.at ≡ c ∷ cs)
+pub rest_next : (n : ℕ) (bytes : List ℕ) (from : ℕ) (c : Cell) (cs : List Cell) → length bytes - from ≤ n → rest bytes from ≡ c ∷ cs → (cs ≡ rest bytes (c.at + 1)) × (c.at < length bytes) × (rest bytes c.at ≡ c ∷ cs) × (c.byte ≡ get_or bytes c.at 0)
 rest_next zero bytes from c cs size e = let none = rest_end bytes from (omega arith) in cc
 rest_next (suc n) bytes from c cs size e = by (cases_lt from (length bytes)) (λ k h f. rest_next n bytes k c cs h f)
   where
-    joined : from < length bytes → (k : ℕ) → k ≡ join_len (drop from bytes) → ((k : ℕ) → length bytes - k ≤ n → rest bytes k ≡ c ∷ cs → (cs ≡ rest bytes (c.at + 1)) × (c.at < length bytes) × (rest bytes c.at ≡ c ∷ cs)) → (cs ≡ rest bytes (c.at + 1)) × (c.at < length bytes) × (rest bytes c.at ≡ c ∷ cs)
+    joined : from < length bytes → (k : ℕ) → k ≡ join_len (drop from bytes) → ((k : ℕ) → length bytes - k ≤ n → rest bytes k ≡ c ∷ cs → (cs ≡ rest bytes (c.at + 1)) × (c.at < length bytes) × (rest bytes c.at ≡ c ∷ cs) × (c.byte ≡ get_or bytes c.at 0)) → (cs ≡ rest bytes (c.at + 1)) × (c.at < length bytes) × (rest bytes c.at ≡ c ∷ cs) × (c.byte ≡ get_or bytes c.at 0)
     joined lt zero j ih =
         let here = rest_byte bytes from lt (sym j) in
         let same : c ≡ cell_of bytes from = cc in
         let at : c.at ≡ from = ap (λ d. d.at) same in
         let more : cs ≡ rest bytes (from + 1) = cc in
-        (more ∙ ap (λ k. rest bytes (k + 1)) (sym at), subst (λ k. k < length bytes) (sym at) lt, ap (rest bytes) at ∙ e)
+        (more ∙ ap (λ k. rest bytes (k + 1)) (sym at), subst (λ k. k < length bytes) (sym at) lt, ap (rest bytes) at ∙ e, ap (λ d. d.byte) same ∙ ap (λ k. get_or bytes k 0) (sym at))
     joined lt (suc k) j ih =
         let fits = join_within bytes from (suc k) lt j in
         let over = rest_join bytes from (suc k) lt j (λ z. cc) fits in
         ih (from + suc k) (omega arith) (over ∙ e)
-    by : (from < length bytes) ⊎ (length bytes ≤ from) → ((k : ℕ) → length bytes - k ≤ n → rest bytes k ≡ c ∷ cs → (cs ≡ rest bytes (c.at + 1)) × (c.at < length bytes) × (rest bytes c.at ≡ c ∷ cs)) → (cs ≡ rest bytes (c.at + 1)) × (c.at < length bytes) × (rest bytes c.at ≡ c ∷ cs)
+    by : (from < length bytes) ⊎ (length bytes ≤ from) → ((k : ℕ) → length bytes - k ≤ n → rest bytes k ≡ c ∷ cs → (cs ≡ rest bytes (c.at + 1)) × (c.at < length bytes) × (rest bytes c.at ≡ c ∷ cs) × (c.byte ≡ get_or bytes c.at 0)) → (cs ≡ rest bytes (c.at + 1)) × (c.at < length bytes) × (rest bytes c.at ≡ c ∷ cs) × (c.byte ≡ get_or bytes c.at 0)
     by (inr past) ih = let none = rest_end bytes from past in cc
     by (inl lt) ih = joined lt (join_len (drop from bytes)) refl ih
 

@@ -238,7 +238,7 @@ module _ (bytes old new : List ℕ) (os : List ℕ) (name : is_identifier old �
       by [] e ih = record { parts = []; words = tt; before = ap text_of (sym e); after = ap (λ cs. text_of (E cs)) (sym e) }
       by (c ∷ cs) e ih = on (place c.at) refl
         where
-          next : (cs ≡ rest bytes (c.at + 1)) × (c.at < length bytes) × (rest bytes c.at ≡ c ∷ cs)
+          next : (cs ≡ rest bytes (c.at + 1)) × (c.at < length bytes) × (rest bytes c.at ≡ c ∷ cs) × (c.byte ≡ get_or bytes c.at 0)
           next = rest_next (length bytes - from) bytes from c cs (omega arith) e
           from_at : from ≤ c.at
           from_at = (subst (Rising from) e (rest_rises bytes from)).0
@@ -266,13 +266,13 @@ module _ (bytes old new : List ℕ) (os : List ℕ) (name : is_identifier old �
               }
 
   -- the tokens that places stand for
-  record IsGood (t : Token) : Type 0 where
-    kind : t.kind ≡ Ident
-    text : t.text ≡ old
-    joined : t.joined ≡ false
-    quote : is_before_quote new (rest bytes t.end) ≡ false
+  pub record IsGood (t : Token) : Type 0 where
+    pub kind : t.kind ≡ Ident
+    pub text : t.text ≡ old
+    pub joined : t.joined ≡ false
+    pub quote : is_before_quote new (rest bytes t.end) ≡ false
 
-  abbrev Placed : ℕ → List Token → Type 0
+  abbrev pub Placed : ℕ → List Token → Type 0
   Placed from ts = (p : ℕ) → from ≤ p → is_among os p ≡ true → (t : Token) × In t ts × (t.at ≡ p) × IsGood t
 
   must_be_false : (b : Bool) → (b ≡ true → ⊥) → b ≡ false
@@ -294,14 +294,14 @@ module _ (bytes old new : List ℕ) (os : List ℕ) (name : is_identifier old �
 
   -- one part: its first cell, what is behind it, and how many more cells it has
   module _ (from : ℕ) (b : Before) (c : Cell) (cs : List Cell) (k : ℕ) (here : rest bytes from ≡ c ∷ cs) (fits : k ≤ length cs)
-    (ih : (b : Before) → Placed (behind k (c.at + 1) cs) (cut b zero (drop k cs)).tokens → cut b zero (E (drop k cs)) ≡ renl (cut b zero (drop k cs))) where
+    (ih : (b : Before) → IsOut (length old) (length new) os (behind k (c.at + 1) cs) → Placed (behind k (c.at + 1) cs) (cut b zero (drop k cs)).tokens → cut b zero (E (drop k cs)) ≡ renl (cut b zero (drop k cs))) where
     abbrev end : ℕ
     end = behind k (c.at + 1) cs
 
     rises : Rising from (c ∷ cs)
     rises = subst (Rising from) here (rest_rises bytes from)
 
-    next : (cs ≡ rest bytes (c.at + 1)) × (c.at < length bytes) × (rest bytes c.at ≡ c ∷ cs)
+    next : (cs ≡ rest bytes (c.at + 1)) × (c.at < length bytes) × (rest bytes c.at ≡ c ∷ cs) × (c.byte ≡ get_or bytes c.at 0)
     next = rest_next (length bytes - from) bytes from c cs (omega arith) here
 
     abbrev after : Before → Lexed
@@ -311,13 +311,13 @@ module _ (bytes old new : List ℕ) (os : List ℕ) (name : is_identifier old �
     later : (b2 : Before) (t : Token) → In t (cut b2 zero (drop k cs)).tokens → behind k (c.at + 1) cs ≤ t.at
     later b2 t h = tokens_behind b2 zero (behind k (c.at + 1) cs) (drop k cs) t (Rising-drop k (c.at + 1) cs rises.1) h
 
-    E_cut : (b2 : Before) → NoPlace (c.at + 1) (behind k (c.at + 1) cs) → Placed (behind k (c.at + 1) cs) (cut b2 zero (drop k cs)).tokens → cut b2 (suc k - 1) (E cs) ≡ renl (cut b2 (suc k - 1) cs)
-    E_cut b2 none placed =
+    E_cut : (b2 : Before) → Out (behind k (c.at + 1) cs) → NoPlace (c.at + 1) (behind k (c.at + 1) cs) → Placed (behind k (c.at + 1) cs) (cut b2 zero (drop k cs)).tokens → cut b2 (suc k - 1) (E cs) ≡ renl (cut b2 (suc k - 1) cs)
+    E_cut b2 clear none placed =
         ap (λ n. cut b2 n (E cs)) (let e : suc k - 1 ≡ k = omega arith in e)
         ∙ skip_cut b2 k (E cs)
         ∙ ap (λ l. cut b2 zero (drop k l)) (E_front k (c.at + 1) cs rises.1 none)
         ∙ ap (cut b2 zero) (drop_front (map (moved_to shift) (take k cs)) (E (drop k cs)) k (length-map (take k cs) (moved_to shift) ∙ length-take-le k cs fits))
-        ∙ ih b2 placed
+        ∙ ih b2 clear placed
         ∙ ap renl (sym (skip_cut b2 k cs) ∙ ap (λ n. cut b2 n cs) (let e : k ≡ suc k - 1 = omega arith in e))
 
     end_is : rest bytes (behind k (c.at + 1) cs) ≡ drop k cs
@@ -392,9 +392,14 @@ module _ (bytes old new : List ℕ) (os : List ℕ) (name : is_identifier old �
     cut_after b2 = ap (λ n. cut b2 n cs) (let e : suc k - 1 ≡ k = omega arith in e) ∙ skip_cut b2 k cs
 
     -- white space
-    kept_space : (b2 : Before) (part : Part) → ((l : List Cell) (d : Cell) → by_part b d l (λ after n. cut after n l) (suc k, part) ≡ cut b2 (suc k - 1) l)
+    out_end : Out c.at → place c.at ≡ false → NoPlace (c.at + 1) (behind k (c.at + 1) cs) → Out (behind k (c.at + 1) cs)
+    out_end out stay none =
+        subst Out (let e : c.at + (behind k (c.at + 1) cs - c.at) ≡ behind k (c.at + 1) cs = omega (arith, far) in e)
+          (shift_run (behind k (c.at + 1) cs - c.at) c.at out (λ p a g. elim (cases_eq p c.at) [ inl e ↦ ap (is_among os) e ∙ stay | inr ne ↦ none p (omega arith) (omega (arith, far)) ])).1
+
+    kept_space : (b2 : Before) (part : Part) → Out c.at → ((l : List Cell) (d : Cell) → by_part b d l (λ after n. cut after n l) (suc k, part) ≡ cut b2 (suc k - 1) l)
         → longest_part (text_of (c ∷ cs)) ≡ (suc k, part) → Placed from (cut b2 (suc k - 1) cs).tokens → cut b zero (E (c ∷ cs)) ≡ renl (cut b2 (suc k - 1) cs)
-    kept_space b2 part same e placed =
+    kept_space b2 part out same e placed =
         let at_end = subst (λ l. Placed from l.tokens) (cut_after b2) placed in
         let none = none_behind b2 at_end in
         let inner : NoPlace (c.at + 1) (behind k (c.at + 1) cs) = λ p a l. none p (omega (arith, rises.0)) l in
@@ -402,7 +407,7 @@ module _ (bytes old new : List ℕ) (os : List ℕ) (name : is_identifier old �
         ∙ cut_one b (moved_to shift c) (E cs)
         ∙ ap (by_part b (moved_to shift c) (E cs) (λ after n. cut after n (E cs))) (kept_longest part inner e)
         ∙ same (E cs) (moved_to shift c)
-        ∙ E_cut b2 inner (placed_behind b2 at_end)
+        ∙ E_cut b2 (out_end out (none c.at rises.0 (omega (arith, far))) inner) inner (placed_behind b2 at_end)
 
     -- tokens that stay
     own_is : NoPlace (c.at + 1) (behind k (c.at + 1) cs) → take (suc k) (moved_to shift c ∷ E cs) ≡ map (moved_to shift) (c ∷ take k cs)
@@ -480,7 +485,7 @@ module _ (bytes old new : List ℕ) (os : List ℕ) (name : is_identifier old �
         by false (Some at) placed = refl
         by false None placed =
             ap (λ t. with_token t (cut in_line (suc k - 1) (E cs))) (kept_token kind out stay none)
-            ∙ ap (with_token (ren (token b kind c (c ∷ take k cs)))) (E_cut in_line none (placed refl refl))
+            ∙ ap (with_token (ren (token b kind c (c ∷ take k cs)))) (E_cut in_line (out_end out stay none) none (placed refl refl))
 
     -- the new name in the place of a token
     renamed_piece : (kind : PpKind) → longest_part (text_of (c ∷ cs)) ≡ (suc k, Piece kind) → place c.at ≡ true → IsGood (token b kind c (c ∷ take k cs))
@@ -542,7 +547,7 @@ module _ (bytes old new : List ℕ) (os : List ℕ) (name : is_identifier old �
             ap (cut b zero) (E_is ∙ ap (λ l. name_cells (shift c.at) c.line l ++ E (drop k cs)) q)
             ∙ name_cut b w ws (shift c.at) c.line (E (drop k cs)) f (subst (λ l. Ends l (text_of (E (drop k cs)))) q (ends (drop k cs) refl))
             ∙ ap (λ t. with_token t (cut in_line zero (E (drop k cs)))) same
-            ∙ ap (with_token (ren (token b kind c (c ∷ take k cs)))) (ih in_line placed ∙ ap renl (sym (cut_after in_line)))
+            ∙ ap (with_token (ren (token b kind c (c ∷ take k cs)))) (ih in_line (subst Out (sym stands ∙ at_end) (out_place (length old) (length new) os 0 (length bytes) c.at rise hit).1) placed ∙ ap renl (sym (cut_after in_line)))
           where
             place_end : shift (end_of (c ∷ take k cs)) ≡ shift c.at + length (w ∷ ws)
             place_end = ap shift stands ∙ shifted-place (length old) (length new) os 0 (length bytes) c.at some rise hit ∙ ap (λ l. shift c.at + length l) q
@@ -559,9 +564,9 @@ module _ (bytes old new : List ℕ) (os : List ℕ) (name : is_identifier old �
     kept_part : (part : Part) → Out c.at → longest_part (text_of (c ∷ cs)) ≡ (suc k, part)
         → Placed from (by_part b c cs (λ after n. cut after n cs) (suc k, part)).tokens
         → cut b zero (E (c ∷ cs)) ≡ renl (by_part b c cs (λ after n. cut after n cs) (suc k, part))
-    kept_part spellings.Blank out e placed = kept_space (record b { space = true }) spellings.Blank (λ l d. refl) e placed
-    kept_part spellings.Comment out e placed = kept_space (record b { space = true }) spellings.Comment (λ l d. refl) e placed
-    kept_part spellings.LineEnd out e placed = kept_space (record { first = true; space = true }) spellings.LineEnd (λ l d. refl) e placed
+    kept_part spellings.Blank out e placed = kept_space (record b { space = true }) spellings.Blank out (λ l d. refl) e placed
+    kept_part spellings.Comment out e placed = kept_space (record b { space = true }) spellings.Comment out (λ l d. refl) e placed
+    kept_part spellings.LineEnd out e placed = kept_space (record { first = true; space = true }) spellings.LineEnd out (λ l d. refl) e placed
     kept_part (Piece kind) out e placed = by (begins (codes "/*") (text_of (c ∷ cs))) (first_trigraph (c ∷ take k cs)) refl refl placed
       where
         by : (opened : Bool) (found : Option ℕ) → begins (codes "/*") (text_of (c ∷ cs)) ≡ opened → first_trigraph (c ∷ take k cs) ≡ found
@@ -588,3 +593,55 @@ module _ (bytes old new : List ℕ) (os : List ℕ) (name : is_identifier old �
                 this : ((u : Token) × In u (token b kind c (c ∷ take k cs) ∷ (cut in_line zero (drop k cs)).tokens) × (u.at ≡ c.at) × IsGood u) → IsGood (token b kind c (c ∷ take k cs))
                 this (u, inl same, at, good) = subst IsGood (sym same) good
                 this (u, inr i, at, good) = let g = later in_line u i in absurd (omega (arith, far))
+
+  ends_at : (from : ℕ) (c : Cell) (cs : List Cell) (k : ℕ) → rest bytes from ≡ c ∷ cs → rest bytes (behind k (c.at + 1) cs) ≡ drop k cs
+  ends_at from c cs k e =
+      let next = rest_next (length bytes - from) bytes from c cs (omega arith) e in
+      ap (λ l. rest bytes (behind k (c.at + 1) l)) next.0 ∙ rest_behind bytes k (c.at + 1) ∙ ap (drop k) (sym next.0)
+
+  pub kept : (n from : ℕ) (b : Before) → length bytes - from ≤ n → Out from → Placed from (cut b zero (rest bytes from)).tokens → cut b zero (E (rest bytes from)) ≡ renl (cut b zero (rest bytes from))
+  kept zero from b size out placed =
+      let e = rest_end bytes from (omega arith) in
+      ap (λ cs. cut b zero (E cs)) e ∙ cut_none b ∙ ap renl (sym (ap (cut b zero) e ∙ cut_none b))
+  kept (suc n) from b size out placed = by (rest bytes from) refl (λ q b2 h o pl. kept n q b2 h o pl)
+    where
+      by : (cs : List Cell) → rest bytes from ≡ cs
+          → ((q : ℕ) (b2 : Before) → length bytes - q ≤ n → Out q → Placed q (cut b2 zero (rest bytes q)).tokens → cut b2 zero (E (rest bytes q)) ≡ renl (cut b2 zero (rest bytes q)))
+          → cut b zero (E (rest bytes from)) ≡ renl (cut b zero (rest bytes from))
+      by [] e ih = ap (λ cs. cut b zero (E cs)) e ∙ cut_none b ∙ ap renl (sym (ap (cut b zero) e ∙ cut_none b))
+      by (c ∷ cs) e ih = on (longest_part (text_of (c ∷ cs))) refl
+        where
+          rises : Rising from (c ∷ cs)
+          rises = subst (Rising from) e (rest_rises bytes from)
+          here : Placed from (cut b zero (c ∷ cs)).tokens
+          here = subst (λ l. Placed from (cut b zero l).tokens) e placed
+          clear : Out c.at
+          clear = subst Out (let z : from + (c.at - from) ≡ c.at = omega (arith, rises.0) in z)
+            (shift_run (c.at - from) from out (λ p a l. must_be_false (is_among os p) (λ h.
+              let w = here p a h in
+              let g = tokens_behind b zero c.at (c ∷ cs) w.0 (omega arith, rises.1) w.1 in
+              let at = w.2 in absurd (omega (arith, rises.0))))).1
+          on : (p : ℕ × Part) → longest_part (text_of (c ∷ cs)) ≡ p → cut b zero (E (rest bytes from)) ≡ renl (cut b zero (rest bytes from))
+          on (m, part) f = size_is m f (longest_gives (length (text_of (c ∷ cs))) (text_of (c ∷ cs)) m part f)
+            where
+              size_is : (m : ℕ) → longest_part (text_of (c ∷ cs)) ≡ (m, part) → Hit (length (text_of (c ∷ cs))) (text_of (c ∷ cs)) m part ⊎ Missed (length (text_of (c ∷ cs))) (text_of (c ∷ cs)) m part → cut b zero (E (rest bytes from)) ≡ renl (cut b zero (rest bytes from))
+              size_is zero f (inl (x, y, z, w)) = absurd (omega arith)
+              size_is zero f (inr (x, y, z)) = absurd (omega arith)
+              size_is (suc k) f h =
+                  let fits : k ≤ length cs = small h in
+                  let same : cut b zero (c ∷ cs) ≡ by_part b c cs (λ after n. cut after n cs) (suc k, part) = cut_one b c cs ∙ ap (by_part b c cs (λ after n. cut after n cs)) f in
+                  ap (λ l. cut b zero (E l)) e
+                  ∙ kept_part from b c cs k e fits (λ b2 o pl. deeper b2 o pl) part clear f (subst (λ l. Placed from l.tokens) same here)
+                  ∙ ap renl (sym (ap (cut b zero) e ∙ same))
+                where
+                  small : Hit (length (text_of (c ∷ cs))) (text_of (c ∷ cs)) (suc k) part ⊎ Missed (length (text_of (c ∷ cs))) (text_of (c ∷ cs)) (suc k) part → k ≤ length cs
+                  small (inl (x, y, z, w)) = omega (arith, length-map cs (λ (x : Cell). x.byte))
+                  small (inr (x, y, z)) = omega arith
+                  deeper : (b2 : Before) → Out (behind k (c.at + 1) cs) → Placed (behind k (c.at + 1) cs) (cut b2 zero (drop k cs)).tokens → cut b2 zero (E (drop k cs)) ≡ renl (cut b2 zero (drop k cs))
+                  deeper b2 o pl =
+                      let d = ends_at from c cs k e in
+                      let next = rest_next (length bytes - from) bytes from c cs (omega arith) e in
+                      let g = Rising-behind k (c.at + 1) cs rises.1 in
+                      ap (λ l. cut b2 zero (E l)) (sym d)
+                      ∙ ih (behind k (c.at + 1) cs) b2 (omega (arith, rises.0, next.1)) o (subst (λ l. Placed (behind k (c.at + 1) cs) (cut b2 zero l).tokens) (sym d) pl)
+                      ∙ ap (λ l. renl (cut b2 zero l)) d

@@ -15,6 +15,7 @@ pub mod Substituted
 pub mod Segments
 pub mod Keeping
 pub mod Kept
+pub mod Law
 pub mod Spots
 pub mod Plain
 pub mod Runs

@@ -4,6 +4,7 @@
 mod cell;
 mod fault;
 mod kind;
+mod laws;
 mod lexer;
 mod literal;
 mod part;
@@ -14,6 +15,7 @@ mod text;
 
 pub use fault::{LexFault, LexStep, Lexed};
 pub use kind::token_kind;
+pub use laws::renaming_keeps_lexing;
 pub use lexer::{Lexer, lex};
 
 #[cfg(test)]
