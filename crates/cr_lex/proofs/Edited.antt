@@ -1,16 +1,12 @@
 -- The cells of a file with a new name at places.
-use Rattle.std.proofs.Common.{◌≡◌, ℕ, zero, suc, ◌+◌, ◌-◌, ◌<◌, ◌≤◌, ◌⊎◌, inl, inr, Bool, true, false, not, ◌&&◌, ◌||◌, cond, List, [], ◌∷◌, ◌++◌, length, map, take, drop, refl, ap, sym, ◌∙◌, subst, arith, append_assoc, take-append-drop, length-append, length-take-le, length-drop, drop-drop, codes}
+use Rattle.std.proofs.Common.{◌≡◌, ℕ, zero, suc, ◌+◌, ◌-◌, ◌<◌, ◌≤◌, Bool, true, false, ◌&&◌, ◌||◌, cond, List, [], ◌∷◌, ◌++◌, length, map, drop, refl, ap, ◌∙◌, arith, codes}
 use Rattle.std.specs.Prelude.{◌==◌, if◌then◌else◌}
-use Rattle.std.specs.List.{list_all, list_any}
-use Rattle.std.proofs.lemmas.Bool.{cases_lt, and_parts, and_left, ne_eqb, eq-eqb, or_parts, or_from}
+use Rattle.std.specs.List.{list_all}
+use Rattle.std.proofs.lemmas.Bool.{and_parts, and_left}
 use Rattle.std.proofs.lemmas.Bool.Decides.{nat_tests}
-use Rattle.std.proofs.lemmas.List.{map-append}
 use Rattle.cr_base.specs.Names.{is_identifier, is_word_byte, is_digit, starts_name}
-use Rattle.cr_base.specs.Substitution.{Rise, substituted_from, shifted}
 use Rattle.cr_lex.specs.Spellings.{is_one_of}
-use Rattle.cr_lex.specs.Joins.{Cell, cells, joined_from, unless_joined, join_len, begins, is_trigraph, line_after, text_of}
-use Rattle.cr_lex.specs.Renaming.{is_among}
-use Rattle.cr_lex.proofs.Shifting.{IsOut, shifted-none, shifted-more, shifted-place, shifted-here, shifted-past, shifted-above, out_more, among-above}
+use Rattle.cr_lex.specs.Joins.{Cell, cells, joined_from, unless_joined, join_len, begins, is_trigraph, line_after}
 
 -- the cells of a name, each behind the one before, from an offset on
 abbrev pub name_cells : ℕ → ℕ → List ℕ → List Cell
@@ -100,8 +96,8 @@ cells_before (b ∷ f) l ys skip at line h s =
     ap (λ n. unless_joined (record { byte = b; at = at; line = line; trigraph = is_trigraph (b ∷ f ++ l ∷ ys) }) (cells (n - 1) (at + 1) (line_after line b) (f ++ l ∷ ys)) n) (joined_before b l f ys skip h)
     ∙ ap (λ t. unless_joined (record { byte = b; at = at; line = line; trigraph = t }) (cells (joined_from (b ∷ f) skip - 1) (at + 1) (line_after line b) (f ++ l ∷ ys)) (joined_from (b ∷ f) skip)) (trigraph_before b l f ys h)
     ∙ ap (λ cs. unless_joined (record { byte = b; at = at; line = line; trigraph = is_trigraph (b ∷ f) }) cs (joined_from (b ∷ f) skip))
-      (cells_before f l ys (joined_from (b ∷ f) skip - 1) (at + 1) (line_after line b) h (omega (arith, joined_small (b ∷ f) skip s))
-      ∙ ap (λ n. cells (joined_from (b ∷ f) skip - 1) (at + 1) (line_after line b) f ++ cells zero n (lines_over (line_after line b) f) (l ∷ ys)) (let e : at + 1 + length f ≡ at + length (b ∷ f) = omega arith in e))
+    (cells_before f l ys (joined_from (b ∷ f) skip - 1) (at + 1) (line_after line b) h (omega (arith, joined_small (b ∷ f) skip s))
+    ∙ ap (λ n. cells (joined_from (b ∷ f) skip - 1) (at + 1) (line_after line b) f ++ cells zero n (lines_over (line_after line b) f) (l ∷ ys)) (let e : at + 1 + length f ≡ at + length (b ∷ f) = omega arith in e))
     ∙ out (joined_from (b ∷ f) skip) (record { byte = b; at = at; line = line; trigraph = is_trigraph (b ∷ f) }) _ _
   where
     out : (n : ℕ) (c : Cell) (xs zs : List Cell) → unless_joined c (xs ++ zs) n ≡ unless_joined c xs n ++ zs
@@ -148,9 +144,10 @@ cells_moved shift (b ∷ f) skip at to line h =
   where
     here : shift at ≡ to
     here = ap shift (let e : at ≡ at + 0 = omega arith in e) ∙ h 0 (omega arith) ∙ (let e : to + 0 ≡ to = omega arith in e)
+
     by : (n : ℕ) → map (moved_to shift) (cells (joined_from (b ∷ f) skip - 1) (at + 1) (line_after line b) f) ≡ cells (joined_from (b ∷ f) skip - 1) (to + 1) (line_after line b) f
         → map (moved_to shift) (unless_joined (record { byte = b; at = at; line = line; trigraph = is_trigraph (b ∷ f) }) (cells (joined_from (b ∷ f) skip - 1) (at + 1) (line_after line b) f) n)
-          ≡ unless_joined (record { byte = b; at = to; line = line; trigraph = is_trigraph (b ∷ f) }) (cells (joined_from (b ∷ f) skip - 1) (to + 1) (line_after line b) f) n
+        ≡ unless_joined (record { byte = b; at = to; line = line; trigraph = is_trigraph (b ∷ f) }) (cells (joined_from (b ∷ f) skip - 1) (to + 1) (line_after line b) f) n
     by zero ih = ap (λ t. record { byte = b; at = t; line = line; trigraph = is_trigraph (b ∷ f) } ∷ map (moved_to shift) (cells (joined_from (b ∷ f) skip - 1) (at + 1) (line_after line b) f)) here
         ∙ ap (λ cs. record { byte = b; at = to; line = line; trigraph = is_trigraph (b ∷ f) } ∷ cs) ih
     by (suc n) ih = ih
@@ -168,7 +165,7 @@ module _ (place : ℕ → Bool) (shift : ℕ → ℕ) (old : ℕ) (new : List �
     where
       by : (n : ℕ) → edited place shift old new zero (cells (joined_from (b ∷ f) skip - 1) (at + 1) (line_after line b) f ++ cs) ≡ map (moved_to shift) (cells (joined_from (b ∷ f) skip - 1) (at + 1) (line_after line b) f) ++ edited place shift old new zero cs
           → edited place shift old new zero (unless_joined (record { byte = b; at = at; line = line; trigraph = is_trigraph (b ∷ f) }) (cells (joined_from (b ∷ f) skip - 1) (at + 1) (line_after line b) f) n ++ cs)
-            ≡ map (moved_to shift) (unless_joined (record { byte = b; at = at; line = line; trigraph = is_trigraph (b ∷ f) }) (cells (joined_from (b ∷ f) skip - 1) (at + 1) (line_after line b) f) n) ++ edited place shift old new zero cs
+          ≡ map (moved_to shift) (unless_joined (record { byte = b; at = at; line = line; trigraph = is_trigraph (b ∷ f) }) (cells (joined_from (b ∷ f) skip - 1) (at + 1) (line_after line b) f) n) ++ edited place shift old new zero cs
       by zero ih =
           ap (λ t. cond t (name_cells (shift at) line new ++ edited place shift old new (old - 1) (cells (joined_from (b ∷ f) skip - 1) (at + 1) (line_after line b) f ++ cs)) (record { byte = b; at = shift at; line = line; trigraph = is_trigraph (b ∷ f) } ∷ edited place shift old new zero (cells (joined_from (b ∷ f) skip - 1) (at + 1) (line_after line b) f ++ cs))) (h at (omega arith) (omega arith))
           ∙ ap (λ cs. record { byte = b; at = shift at; line = line; trigraph = is_trigraph (b ∷ f) } ∷ cs) ih

@@ -44,6 +44,7 @@ rest_next (suc n) bytes from c cs size e = by (cases_lt from (length bytes)) (λ
         let fits = join_within bytes from (suc k) lt j in
         let over = rest_join bytes from (suc k) lt j (λ z. cc) fits in
         ih (from + suc k) (omega arith) (over ∙ e)
+
     by : (from < length bytes) ⊎ (length bytes ≤ from) → ((k : ℕ) → length bytes - k ≤ n → rest bytes k ≡ c ∷ cs → (cs ≡ rest bytes (c.at + 1)) × (c.at < length bytes) × (rest bytes c.at ≡ c ∷ cs) × (c.byte ≡ get_or bytes c.at 0)) → (cs ≡ rest bytes (c.at + 1)) × (c.at < length bytes) × (rest bytes c.at ≡ c ∷ cs) × (c.byte ≡ get_or bytes c.at 0)
     by (inr past) ih = let none = rest_end bytes from past in cc
     by (inl lt) ih = joined lt (join_len (drop from bytes)) refl ih

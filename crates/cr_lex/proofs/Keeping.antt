@@ -1,8 +1,8 @@
 -- The longest part stays the longest one where words behind it are replaced.
-use Rattle.std.proofs.Common.{◌≡◌, ℕ, zero, suc, ◌+◌, ◌-◌, ◌<◌, ◌≤◌, ◌⊎◌, inl, inr, Bool, true, false, not, ◌&&◌, ◌||◌, cond, List, [], ◌∷◌, ◌++◌, length, map, take, drop, Option, Some, None, refl, ap, sym, ◌∙◌, subst, arith, codes, length-append, append_assoc, append-nil}
-use Rattle.std.specs.Prelude.{◌==◌, if◌then◌else◌, bytes_eq}
-use Rattle.std.specs.List.{list_all, list_any}
-use Rattle.std.proofs.lemmas.Bool.{cases_Bool, cases_lt, and_parts, or_cases, or_parts, or_from, and_left, eqb-true, eq-eqb, and_from}
+use Rattle.std.proofs.Common.{◌≡◌, ℕ, zero, suc, ◌+◌, ◌-◌, ◌<◌, ◌≤◌, ◌⊎◌, inl, inr, Bool, true, false, ◌&&◌, ◌||◌, List, [], ◌∷◌, ◌++◌, length, take, Option, Some, None, refl, ap, sym, ◌∙◌, arith, codes, length-append, append-nil}
+use Rattle.std.specs.Prelude.{◌==◌, if◌then◌else◌}
+use Rattle.std.specs.List.{list_all}
+use Rattle.std.proofs.lemmas.Bool.{cases_lt, and_parts, or_cases, eqb-true, and_from}
 use Rattle.std.proofs.lemmas.Bool.Decides.{nat_tests}
 use Rattle.std.proofs.lemmas.List.{take-append-le}
 use Rattle.std.proofs.Math.Seq.{take-append_seam}
@@ -31,12 +31,14 @@ longest_gives (suc n) text m p e = by (part_of (take (suc n) text)) refl e (λ f
   where
     last : part_of (take (suc n) text) ≡ None → (i : ℕ) → (i ≤ n → part_of (take i text) ≡ None) → i ≤ suc n → part_of (take i text) ≡ None
     last f i k b = elim (cases_lt n i) [
-        inl l ↦ ap (λ j. part_of (take j text)) (let q : i ≡ suc n = omega arith in q) ∙ f
+      | inl l ↦ ap (λ j. part_of (take j text)) (let q : i ≡ suc n = omega arith in q) ∙ f
       | inr g ↦ k g
-      ]
+    ]
+
     more : part_of (take (suc n) text) ≡ None → Hit n text m p ⊎ Missed n text m p → Hit (suc n) text m p ⊎ Missed (suc n) text m p
     more f (inl (a, b, c, d)) = inl (omega arith, b, c, λ i l g. last f i (λ h. d i l h) g)
     more f (inr (a, b, d)) = inr (a, b, λ i l g. last f i (λ h. d i l h) g)
+
     by : (o : Option Part) → part_of (take (suc n) text) ≡ o → or_shorter (suc n) (longest n text) o ≡ (m, p) → (longest n text ≡ (m, p) → Hit n text m p ⊎ Missed n text m p) → Hit (suc n) text m p ⊎ Missed (suc n) text m p
     by (Some q) f e ih =
         let long : suc n ≡ m = ap (λ x. x.0) e in
@@ -160,14 +162,14 @@ module _ (name : List ℕ) (is : is_identifier name ≡ true) where
     where
       by : (j < length w) ⊎ (length w ≤ j) → ((i : ℕ) → IsCut name s i) → IsCut name (Word w ∷ s) (suc j)
       by (inl l) k = record {
-          front = Word (take (suc j) w) ∷ [];
-          here = length name;
-          words = (take_word w j h.0, tt);
-          fresh = append-nil (take (suc j) w) ∙ sym (take-append-le (suc j) w (new_text s) l);
-          before = append-nil name ∙ sym (take-append_seam name (old_text name s));
-          within = omega (arith, length-append name (old_text name s));
-          some = λ x y. long;
-        }
+        front = Word (take (suc j) w) ∷ [];
+        here = length name;
+        words = (take_word w j h.0, tt);
+        fresh = append-nil (take (suc j) w) ∙ sym (take-append-le (suc j) w (new_text s) l);
+        before = append-nil name ∙ sym (take-append_seam name (old_text name s));
+        within = omega (arith, length-append name (old_text name s));
+        some = λ x y. long;
+      }
       by (inr g) k =
           let r = k (suc j - length w) in
           record {
@@ -212,28 +214,32 @@ module _ (name : List ℕ) (is : is_identifier name ≡ true) where
       let before : old_text name (stays p k.front) ≡ p ++ take k.here (old_text name s) = old_stays name p k.front ∙ ap (λ l. p ++ l) k.before in
       ap (λ l. part_of (a ∷ l)) (sym fresh)
       ∙ none_alike name is a (stays p k.front) (words_stay p k.front k.words)
-        (ap (λ l. part_of (a ∷ l)) before ∙ none k.here (k.some pos (omega arith)) k.within)
-        (ap (λ l. is_number (a ∷ l)) fresh ∙ no_number a p s j h pos (λ z. none 1 (omega arith) z) (omega arith))
+      (ap (λ l. part_of (a ∷ l)) before ∙ none k.here (k.some pos (omega arith)) k.within)
+      (ap (λ l. is_number (a ∷ l)) fresh ∙ no_number a p s j h pos (λ z. none 1 (omega arith) z) (omega arith))
 
   pub longest_kept : (a : ℕ) (p : List ℕ) (s : List Segment) (part : Part) → AreWords s → longest_part (a ∷ p ++ old_text name s) ≡ (suc (length p), part) → longest_part (a ∷ p ++ new_text s) ≡ (suc (length p), part)
   longest_kept a p s part h e = by (longest_gives (length (a ∷ p ++ old_text name s)) (a ∷ p ++ old_text name s) (suc (length p)) part e)
     where
       size : (xs : List ℕ) → length (p ++ xs) ≡ length p + length xs
       size xs = length-append p xs
+
       whole : (xs : List ℕ) → take (length p) (p ++ xs) ≡ p
       whole xs = ap (λ n. take n (p ++ xs)) (let z : length p ≡ length p + 0 = omega arith in z) ∙ take_over p xs 0 ∙ append-nil p
+
       above : ((i : ℕ) → suc (length p) < i → i ≤ length (a ∷ p ++ old_text name s) → part_of (take i (a ∷ p ++ old_text name s)) ≡ None) → (j : ℕ) → 0 < j → j ≤ length (new_text s) → part_of (a ∷ p ++ take j (new_text s)) ≡ None
       above none j pos g = none_after a p s j h pos g (λ i x y. ap (λ l. part_of (a ∷ l)) (sym (take_over p (old_text name s) i)) ∙ none (suc (length p + i)) (omega arith) (omega (arith, size (old_text name s))))
+
       fronts : ((i : ℕ) → suc (length p) < i → i ≤ length (a ∷ p ++ old_text name s) → part_of (take i (a ∷ p ++ old_text name s)) ≡ None) → (m : ℕ) → length p < m → m ≤ length (p ++ new_text s) → part_of (a ∷ take m (p ++ new_text s)) ≡ None
       fronts none m l g =
           ap (λ n. part_of (a ∷ take n (p ++ new_text s))) (let z : m ≡ length p + (m - length p) = omega arith in z)
           ∙ ap (λ l. part_of (a ∷ l)) (take_over p (new_text s) (m - length p))
           ∙ above none (m - length p) (omega arith) (omega (arith, size (new_text s)))
+
       by : Hit (length (a ∷ p ++ old_text name s)) (a ∷ p ++ old_text name s) (suc (length p)) part ⊎ Missed (length (a ∷ p ++ old_text name s)) (a ∷ p ++ old_text name s) (suc (length p)) part
           → longest_part (a ∷ p ++ new_text s) ≡ (suc (length p), part)
       by (inl (x, y, hit, none)) =
           longest_is a (p ++ new_text s) (length p) part (omega (arith, size (new_text s)))
-            (ap (λ l. part_of (a ∷ l)) (whole (new_text s) ∙ sym (whole (old_text name s))) ∙ hit) (fronts none)
+          (ap (λ l. part_of (a ∷ l)) (whole (new_text s) ∙ sym (whole (old_text name s))) ∙ hit) (fronts none)
       by (inr (one, stray, none)) =
           stray_is a (p ++ new_text s) (λ m g. on m g (cases_lt 0 m)) ∙ ap (λ n. (n, Piece Stray)) (sym one) ∙ ap (λ x. (suc (length p), x)) (sym stray)
         where
@@ -259,6 +265,7 @@ nothing a zero l = (by (is_wide a), text (is_wide a))
     by : (t : Bool) → (t && false) ≡ false
     by true = refl
     by false = refl
+
     text : (t : Bool) → ((t && false) || false) ≡ false
     text true = refl
     text false = refl
@@ -271,6 +278,7 @@ quotes w b h k = by (or_cases (76 == w) ((117 == w) || ((85 == w) || false)) h)
     parts true q h = cc
     parts false true h = cc
     parts false false h = (refl, refl)
+
     by : ((76 == w) ≡ true) ⊎ (((117 == w) || ((85 == w) || false)) ≡ true) → ((b == 39) ≡ false) × ((b == 34) ≡ false)
     by (inl e) = parts (b == 39) (b == 34) (ap (λ x. could_prefix (x ∷ []) b) (eqb-true 76 w e) ∙ k)
     by (inr e) = two (or_cases (117 == w) ((85 == w) || false) e)
@@ -293,12 +301,15 @@ no_literal w [] (b ∷ bs) h e = by (is_wide w) refl
         by : (t : Bool) → (b == 56) ≡ t → t ≡ false
         by true e = let bad : true ≡ false = sym (ap is_word_byte (eqb-true b 56 e)) ∙ h in cc
         by false e = refl
+
     no : (t : Bool) → (t && false) ≡ false
     no true = refl
     no false = refl
+
     u : (t : Bool) → (w == 117) ≡ t → is_wide w ≡ false → (w == 117) ≡ false
     u true f g = let bad : true ≡ false = sym (ap is_wide (eqb-true w 117 f)) ∙ g in cc
     u false f g = f
+
     by : (t : Bool) → is_wide w ≡ t → HasNoLiteral w (b ∷ bs)
     by true f = let q = quotes w b f e.1 in no_quote w b bs q.0 q.1 (ap (λ t. w == 117 && (t && starts_with 34 bs)) (eight b e.0) ∙ no (w == 117))
     by false f = no_prefix w (b ∷ bs) f (u (w == 117) refl f)
@@ -306,16 +317,19 @@ no_literal w (x ∷ ws) bs h e = no_quote w x (ws ++ bs) (other x 39 p.0 refl) (
   where
     p : (is_word_byte x ≡ true) × (list_all is_word_byte ws ≡ true)
     p = and_parts (is_word_byte x) (list_all is_word_byte ws) h
+
     other : (x q : ℕ) → is_word_byte x ≡ true → is_word_byte q ≡ false → (x == q) ≡ false
     other x q h k = by (x == q) refl
       where
         by : (t : Bool) → (x == q) ≡ t → t ≡ false
         by true e = let bad : true ≡ false = sym h ∙ ap is_word_byte (eqb-true x q e) ∙ k in cc
         by false e = refl
+
     no : (t u : Bool) → (t && (u && false)) ≡ false
     no true true = refl
     no true false = refl
     no false u = refl
+
     eight : (ws bs : List ℕ) → list_all is_word_byte ws ≡ true → Ends (w ∷ x ∷ ws) bs → (w == 117 && (x == 56 && starts_with 34 (ws ++ bs))) ≡ false
     eight (y ∷ ws) bs h e = ap (λ t. w == 117 && (x == 56 && t)) (other y 34 (and_parts (is_word_byte y) (list_all is_word_byte ws) h).0 refl) ∙ no (w == 117) (x == 56)
     eight [] [] h e = no (w == 117) (x == 56)
@@ -323,6 +337,7 @@ no_literal w (x ∷ ws) bs h e = no_quote w x (ws ++ bs) (other x 39 p.0 refl) (
       where
         quote : could_prefix (117 ∷ 56 ∷ []) b ≡ false → (b == 34) ≡ false
         quote k = k
+
         by : (t u : Bool) → (w == 117) ≡ t → (x == 56) ≡ u → (t && (u && b == 34)) ≡ false
         by true true f g = quote (sym (ap (λ y. could_prefix (y ∷ x ∷ []) b) (eqb-true w 117 f) ∙ ap (λ y. could_prefix (117 ∷ y ∷ []) b) (eqb-true x 56 g)) ∙ e.1)
         by true false f g = refl

@@ -1,10 +1,10 @@
 -- The tokens of a file whose old name was replaced at places of such tokens.
-use Rattle.std.proofs.Common.{◌≡◌, ℕ, zero, suc, ◌+◌, ◌-◌, ◌<◌, ◌≤◌, ◌⊎◌, inl, inr, Bool, true, false, not, ◌&&◌, ◌||◌, cond, List, [], ◌∷◌, ◌++◌, length, map, take, drop, get_or, Option, Some, None, refl, ap, sym, ◌∙◌, subst, arith, codes, length-append, append_assoc, length-take-le, length-drop, take-append-drop}
+use Rattle.std.proofs.Common.{◌≡◌, ℕ, zero, suc, ◌+◌, ◌-◌, ◌<◌, ◌≤◌, ◌⊎◌, inl, inr, Bool, true, false, not, ◌&&◌, cond, List, [], ◌∷◌, ◌++◌, length, map, take, drop, get_or, Option, Some, None, refl, ap, sym, ◌∙◌, subst, arith, codes, length-append, length-take-le, length-drop, take-append-drop}
 use Rattle.std.specs.Prelude.{◌==◌, if◌then◌else◌}
-use Rattle.std.specs.List.{list_all, list_any}
+use Rattle.std.specs.List.{list_all}
 use Rattle.std.specs.Option.{option_map}
-use Rattle.std.proofs.lemmas.Bool.{cases_Bool, cases_lt, cases_eq, and_parts, or_cases, or_parts, eqb-true, eq-eqb, ne_eqb}
-use Rattle.std.proofs.lemmas.List.{map-append, take-map, length-map}
+use Rattle.std.proofs.lemmas.Bool.{cases_eq, and_parts, eqb-true, eq-eqb, ne_eqb}
+use Rattle.std.proofs.lemmas.List.{map-append, length-map}
 use Rattle.cr_base.specs.Names.{is_identifier, is_word_byte, starts_name}
 use Rattle.cr_base.specs.Substitution.{Rise, shifted}
 use Rattle.cr_base.specs.declared.token.PpKind.{PpKind}
@@ -17,9 +17,9 @@ use Rattle.cr_lex.specs.Lexing as lexing
 use Rattle.cr_lex.specs.Scanning.{rest, behind}
 use Rattle.cr_lex.specs.Standing.{in_line}
 use Rattle.cr_lex.specs.Renaming.{is_among, is_before_quote, shifted_fault, could_prefix}
-use Rattle.cr_lex.proofs.Marks.{Rising, sooner, rest_rises}
+use Rattle.cr_lex.proofs.Marks.{Rising, rest_rises}
 use Rattle.cr_lex.proofs.First.{cut_one, cut_none, skip_cut, rest_next, rest_behind, ends_behind, Rising-behind}
-use Rattle.cr_lex.proofs.Edited.{edited, name_cells, moved_to, edited_skip, drop_name, no_join, word_is, identifier_words}
+use Rattle.cr_lex.proofs.Edited.{edited, name_cells, moved_to, edited_skip, no_join, word_is, identifier_words}
 use Rattle.cr_lex.proofs.Segments.{Segment, Stays, Word, old_text, new_text, AreWords, with_letters}
 use Rattle.cr_lex.proofs.Shifting.{IsOut, shifted-more, shifted-place, out_more, out_place}
 use Rattle.cr_lex.proofs.Cells.{rest_byte, rest_end}
@@ -45,21 +45,24 @@ tokens_behind b zero from (c ∷ cs) t r h = by (longest_part (text_of (c ∷ cs
     later : (l : Lexed) (o : Option ℕ) → (In t l.tokens → from ≤ t.at) → In t (unless_trigraph l o).tokens → from ≤ t.at
     later l None k h = k h
     later l (Some at) k h = absurd h
+
     opened : (x : Bool) (f : Fault) (l : Lexed) → (In t l.tokens → from ≤ t.at) → In t (cond x (stop f) l).tokens → from ≤ t.at
     opened true f l k h = absurd h
     opened false f l k h = k h
+
     one : (u : Token) (us : List Token) → u.at ≡ c.at → (In t us → c.at + 1 ≤ t.at) → In t (u ∷ us) → from ≤ t.at
     one u us e k (inl same) = let q : t.at ≡ c.at = ap (λ x. x.at) (sym same) ∙ e in omega (arith, r.0)
     one u us e k (inr h) = let q = k h in omega (arith, r.0)
+
     by : (p : ℕ × Part) → In t (by_part b c cs (λ after n. cut after n cs) p).tokens → ((b : Before) (n : ℕ) → In t (cut b n cs).tokens → c.at + 1 ≤ t.at) → from ≤ t.at
     by (n, spellings.Blank) h ih = let q = ih (record b { space = true }) (n - 1) h in omega (arith, r.0)
     by (n, spellings.Comment) h ih = let q = ih (record b { space = true }) (n - 1) h in omega (arith, r.0)
     by (n, spellings.LineEnd) h ih = let q = ih (record { first = true; space = true }) (n - 1) h in omega (arith, r.0)
     by (n, Piece kind) h ih =
         opened (begins (codes "/*") (text_of (c ∷ cs))) (lexing.OpenComment c.at) _
-          (later (with_token (token b kind c (take n (c ∷ cs))) (cut (record { first = false; space = false }) (n - 1) cs)) (first_trigraph (take n (c ∷ cs)))
-            (one (token b kind c (take n (c ∷ cs))) (cut (record { first = false; space = false }) (n - 1) cs).tokens refl (ih (record { first = false; space = false }) (n - 1))))
-          h
+        (later (with_token (token b kind c (take n (c ∷ cs))) (cut (record { first = false; space = false }) (n - 1) cs)) (first_trigraph (take n (c ∷ cs)))
+        (one (token b kind c (take n (c ∷ cs))) (cut (record { first = false; space = false }) (n - 1) cs).tokens refl (ih (record { first = false; space = false }) (n - 1))))
+        h
 
 -- the first bytes of a comment are found alike
 same_open : (old : List ℕ) → is_identifier old ≡ true → (a : ℕ) (s : List Segment) → AreWords s → begins (codes "/*") (a ∷ old_text old s) ≡ begins (codes "/*") (a ∷ new_text s)
@@ -131,23 +134,24 @@ name_cut : (b : Before) (w : ℕ) (ws : List ℕ) (at line : ℕ) (cs : List Cel
 name_cut b w ws at line cs h ends =
     cut_one b (record { byte = w; at = at; line = line; trigraph = false }) (name_cells (at + 1) line ws ++ cs)
     ∙ ap (by_part b (record { byte = w; at = at; line = line; trigraph = false }) (name_cells (at + 1) line ws ++ cs) (λ after n. cut after n (name_cells (at + 1) line ws ++ cs)))
-      (ap (λ l. longest_part (w ∷ l)) (text_name (at + 1) line ws cs) ∙ longest_name (w ∷ ws) (text_of cs) h ends)
+    (ap (λ l. longest_part (w ∷ l)) (text_name (at + 1) line ws cs) ∙ longest_name (w ∷ ws) (text_of cs) h ends)
     ∙ ap (λ t. cond (t && begins (codes "*") (text_of (name_cells (at + 1) line ws ++ cs))) (stop (lexing.OpenComment at)) (unless_trigraph (with_token (token b Ident (record { byte = w; at = at; line = line; trigraph = false }) (take (suc (length ws)) (name_cells at line (w ∷ ws) ++ cs))) (cut in_line (suc (length ws) - 1) (name_cells (at + 1) line ws ++ cs))) (first_trigraph (take (suc (length ws)) (name_cells at line (w ∷ ws) ++ cs))))) (slash w (and_parts (starts_name w) (list_all is_word_byte ws) h).0)
     ∙ ap (λ l. unless_trigraph (with_token (token b Ident (record { byte = w; at = at; line = line; trigraph = false }) l) (cut in_line (suc (length ws) - 1) (name_cells (at + 1) line ws ++ cs))) (first_trigraph l)) (take_name at line (w ∷ ws) cs)
     ∙ ap (unless_trigraph (with_token (token b Ident (record { byte = w; at = at; line = line; trigraph = false }) (name_cells at line (w ∷ ws))) (cut in_line (suc (length ws) - 1) (name_cells (at + 1) line ws ++ cs)))) (no_trigraph at line (w ∷ ws))
     ∙ ap (with_token (token b Ident (record { byte = w; at = at; line = line; trigraph = false }) (name_cells at line (w ∷ ws))))
-      (ap (λ n. cut in_line n (name_cells (at + 1) line ws ++ cs)) (let e : suc (length ws) - 1 ≡ length ws = omega arith in e)
-      ∙ skip_cut in_line (length ws) (name_cells (at + 1) line ws ++ cs)
-      ∙ ap (cut in_line zero) (drop_names ws (at + 1) line cs))
+    (ap (λ n. cut in_line n (name_cells (at + 1) line ws ++ cs)) (let e : suc (length ws) - 1 ≡ length ws = omega arith in e)
+    ∙ skip_cut in_line (length ws) (name_cells (at + 1) line ws ++ cs)
+    ∙ ap (cut in_line zero) (drop_names ws (at + 1) line cs))
   where
     slash : (w : ℕ) → starts_name w ≡ true → (47 == w) ≡ false
     slash w h = ne_eqb 47 w (λ e. let bad : true ≡ false = sym h ∙ ap starts_name (sym e) in cc)
+
     drop_names : (ws : List ℕ) (at line : ℕ) (cs : List Cell) → drop (length ws) (name_cells at line ws ++ cs) ≡ cs
     drop_names [] at line cs = refl
     drop_names (w ∷ ws) at line cs = drop_names ws (at + 1) line cs
 
 module _ (bytes old new : List ℕ) (os : List ℕ) (name : is_identifier old ≡ true) (fresh : is_identifier new ≡ true) (rise : Rise 0 os (length old) (length bytes))
-  (raw : (p : ℕ) → is_among os p ≡ true → take (length old) (drop p bytes) ≡ old) where
+    (raw : (p : ℕ) → is_among os p ≡ true → take (length old) (drop p bytes) ≡ old) where
   abbrev place : ℕ → Bool
   place = is_among os
 
@@ -211,9 +215,10 @@ module _ (bytes old new : List ℕ) (os : List ℕ) (name : is_identifier old �
           let words = identifier_words (x ∷ xs) k in
           let front = name_rest (x ∷ xs) (drop (length old) (drop p bytes)) p words all in
           let back = name_rest xs (drop (length old) (drop p bytes)) (p + 1) (and_parts (is_word_byte x) (list_all is_word_byte xs) words).1 tail in
-          let long : length old ≡ suc (length xs) = ap length e in
-          (ap (λ n. drop n (rest bytes (p + 1))) (let z : length old - 1 ≡ length xs = omega arith in z) ∙ back.0 ∙ ap (rest bytes) (let z : p + 1 + length xs ≡ p + length old = omega arith in z),
-          front.1 ∙ ap (λ n. (x ∷ xs) ++ text_of (rest bytes (p + n))) (sym long) ∙ ap (λ l. l ++ text_of (rest bytes (p + length old))) (sym e))
+          let long : length old ≡ suc (length xs) = ap length e in (
+            ap (λ n. drop n (rest bytes (p + 1))) (let z : length old - 1 ≡ length xs = omega arith in z) ∙ back.0 ∙ ap (rest bytes) (let z : p + 1 + length xs ≡ p + length old = omega arith in z),
+            front.1 ∙ ap (λ n. (x ∷ xs) ++ text_of (rest bytes (p + n))) (sym long) ∙ ap (λ l. l ++ text_of (rest bytes (p + length old))) (sym e),
+          )
 
   -- what stands from an offset on, as segments
   record IsText (from : ℕ) : Type 0 where
@@ -240,8 +245,10 @@ module _ (bytes old new : List ℕ) (os : List ℕ) (name : is_identifier old �
         where
           next : (cs ≡ rest bytes (c.at + 1)) × (c.at < length bytes) × (rest bytes c.at ≡ c ∷ cs) × (c.byte ≡ get_or bytes c.at 0)
           next = rest_next (length bytes - from) bytes from c cs (omega arith) e
+
           from_at : from ≤ c.at
           from_at = (subst (Rising from) e (rest_rises bytes from)).0
+
           on : (t : Bool) → place c.at ≡ t → IsText from
           on false h =
               let k = ih (c.at + 1) (omega (arith, next.1, from_at)) in
@@ -259,10 +266,10 @@ module _ (bytes old new : List ℕ) (os : List ℕ) (name : is_identifier old �
                 words = (fresh, k.words);
                 before = ap (λ l. old ++ l) k.before ∙ sym p.1 ∙ ap text_of (next.2 ∙ sym e);
                 after =
-                  ap (λ l. new ++ l) k.after
-                  ∙ ap (λ cs. new ++ text_of (E cs)) (sym p.0 ∙ ap (drop (length old - 1)) (sym next.0))
-                  ∙ sym (text_name (shift c.at) c.line new (E (drop (length old - 1) cs)))
-                  ∙ ap text_of (sym (at_place c cs h)) ∙ ap (λ cs. text_of (E cs)) (sym e);
+                    ap (λ l. new ++ l) k.after
+                    ∙ ap (λ cs. new ++ text_of (E cs)) (sym p.0 ∙ ap (drop (length old - 1)) (sym next.0))
+                    ∙ sym (text_name (shift c.at) c.line new (E (drop (length old - 1) cs)))
+                    ∙ ap text_of (sym (at_place c cs h)) ∙ ap (λ cs. text_of (E cs)) (sym e);
               }
 
   -- the tokens that places stand for
@@ -294,7 +301,7 @@ module _ (bytes old new : List ℕ) (os : List ℕ) (name : is_identifier old �
 
   -- one part: its first cell, what is behind it, and how many more cells it has
   module _ (from : ℕ) (b : Before) (c : Cell) (cs : List Cell) (k : ℕ) (here : rest bytes from ≡ c ∷ cs) (fits : k ≤ length cs)
-    (ih : (b : Before) → IsOut (length old) (length new) os (behind k (c.at + 1) cs) → Placed (behind k (c.at + 1) cs) (cut b zero (drop k cs)).tokens → cut b zero (E (drop k cs)) ≡ renl (cut b zero (drop k cs))) where
+      (ih : (b : Before) → IsOut (length old) (length new) os (behind k (c.at + 1) cs) → Placed (behind k (c.at + 1) cs) (cut b zero (drop k cs)).tokens → cut b zero (E (drop k cs)) ≡ renl (cut b zero (drop k cs))) where
     abbrev end : ℕ
     end = behind k (c.at + 1) cs
 
@@ -348,7 +355,7 @@ module _ (bytes old new : List ℕ) (os : List ℕ) (name : is_identifier old �
     kept_longest part none e =
         ap (λ l. longest_part (c.byte ∷ l)) (after_is none)
         ∙ longest_kept old name c.byte (text_of (take k cs)) tail.parts part tail.words
-          (ap (λ l. longest_part (c.byte ∷ l)) (sym before_is) ∙ e ∙ ap (λ n. (suc n, part)) (sym long))
+        (ap (λ l. longest_part (c.byte ∷ l)) (sym before_is) ∙ e ∙ ap (λ n. (suc n, part)) (sym long))
         ∙ ap (λ n. (suc n, part)) long
 
     words_stay : (p : List ℕ) (s : List Segment) → AreWords s → AreWords (stays p s)
@@ -395,7 +402,7 @@ module _ (bytes old new : List ℕ) (os : List ℕ) (name : is_identifier old �
     out_end : Out c.at → place c.at ≡ false → NoPlace (c.at + 1) (behind k (c.at + 1) cs) → Out (behind k (c.at + 1) cs)
     out_end out stay none =
         subst Out (let e : c.at + (behind k (c.at + 1) cs - c.at) ≡ behind k (c.at + 1) cs = omega (arith, far) in e)
-          (shift_run (behind k (c.at + 1) cs - c.at) c.at out (λ p a g. elim (cases_eq p c.at) [ inl e ↦ ap (is_among os) e ∙ stay | inr ne ↦ none p (omega arith) (omega (arith, far)) ])).1
+        (shift_run (behind k (c.at + 1) cs - c.at) c.at out (λ p a g. elim (cases_eq p c.at) [ inl e ↦ ap (is_among os) e ∙ stay | inr ne ↦ none p (omega arith) (omega (arith, far)) ])).1
 
     kept_space : (b2 : Before) (part : Part) → Out c.at → ((l : List Cell) (d : Cell) → by_part b d l (λ after n. cut after n l) (suc k, part) ≡ cut b2 (suc k - 1) l)
         → longest_part (text_of (c ∷ cs)) ≡ (suc k, part) → Placed from (cut b2 (suc k - 1) cs).tokens → cut b zero (E (c ∷ cs)) ≡ renl (cut b2 (suc k - 1) cs)
@@ -423,10 +430,13 @@ module _ (bytes old new : List ℕ) (os : List ℕ) (name : is_identifier old �
       where
         at_end : end_of (c ∷ take k cs) ≡ behind k (c.at + 1) cs
         at_end = ends_behind k c cs
+
         d : ℕ
         d = behind k (c.at + 1) cs - c.at - 1
+
         inside : (x : ℕ) → x ≤ behind k (c.at + 1) cs - c.at → (shift (c.at + x) ≡ shift c.at + x) × Out (c.at + x)
         inside x l = shift_run x c.at out (λ p a g. elim (cases_eq p c.at) [ inl e ↦ ap (is_among os) e ∙ stay | inr ne ↦ none p (omega arith) (omega (arith, far)) ])
+
         ends : end_of (map (moved_to shift) (c ∷ take k cs)) ≡ shift (end_of (c ∷ take k cs))
         ends =
             let x : ℕ = behind k (c.at + 1) cs - c.at - 1 in
@@ -436,6 +446,7 @@ module _ (bytes old new : List ℕ) (os : List ℕ) (name : is_identifier old �
             end_moved shift c (take k cs) (c.at + (behind k (c.at + 1) cs - c.at - 1)) (omega (arith, far, at_end))
             ∙ (let y : shift (c.at + (behind k (c.at + 1) cs - c.at - 1)) + 1 ≡ shift (c.at + (behind k (c.at + 1) cs - c.at)) = omega (arith, last.0, all.0, far) in y)
             ∙ ap shift z
+
         alike : not (end_of (map (moved_to shift) (c ∷ take k cs)) == shift c.at + length (map (moved_to shift) (c ∷ take k cs))) ≡ not (end_of (c ∷ take k cs) == c.at + length (c ∷ take k cs))
         alike =
             let all = inside (behind k (c.at + 1) cs - c.at) (omega arith) in
@@ -446,9 +457,10 @@ module _ (bytes old new : List ℕ) (os : List ℕ) (name : is_identifier old �
           where
             same_test : (p q r s : ℕ) → (p + s ≡ r + q) → (p == q) ≡ (r == s)
             same_test p q r s e = elim (cases_eq p q) [
-                inl x ↦ eq-eqb p q x ∙ sym (eq-eqb r s (omega arith))
+              | inl x ↦ eq-eqb p q x ∙ sym (eq-eqb r s (omega arith))
               | inr x ↦ ne_eqb p q x ∙ sym (ne_eqb r s (λ y. x (omega arith)))
-              ]
+            ]
+
         ap₅ : text_of (map (moved_to shift) (c ∷ take k cs)) ≡ (if is_among os c.at then new else text_of (c ∷ take k cs)) → end_of (map (moved_to shift) (c ∷ take k cs)) ≡ shift (end_of (c ∷ take k cs))
             → not (end_of (map (moved_to shift) (c ∷ take k cs)) == shift c.at + length (map (moved_to shift) (c ∷ take k cs))) ≡ not (end_of (c ∷ take k cs) == c.at + length (c ∷ take k cs))
             → token b kind (moved_to shift c) (map (moved_to shift) (c ∷ take k cs)) ≡ ren (token b kind c (c ∷ take k cs))
@@ -480,7 +492,7 @@ module _ (bytes old new : List ℕ) (os : List ℕ) (name : is_identifier old �
       where
         by : (opened : Bool) (found : Option ℕ) → (opened ≡ false → found ≡ None → Placed (behind k (c.at + 1) cs) (cut (record { first = false; space = false }) zero (drop k cs)).tokens)
             → chosen_after opened (option_map shift found) (token b kind (moved_to shift c) (map (moved_to shift) (c ∷ take k cs))) (cut in_line (suc k - 1) (E cs))
-              ≡ renl (chosen opened found (token b kind c (c ∷ take k cs)) (cut in_line (suc k - 1) cs))
+            ≡ renl (chosen opened found (token b kind c (c ∷ take k cs)) (cut in_line (suc k - 1) cs))
         by true found placed = refl
         by false (Some at) placed = refl
         by false None placed =
@@ -495,10 +507,13 @@ module _ (bytes old new : List ℕ) (os : List ℕ) (name : is_identifier old �
       where
         at_end : end_of (c ∷ take k cs) ≡ behind k (c.at + 1) cs
         at_end = ends_behind k c cs
+
         spelled : c.byte ∷ text_of (take k cs) ≡ old
         spelled = good.text
+
         size : length old ≡ suc k
         size = ap length (sym good.text) ∙ ap suc long
+
         stands : end_of (c ∷ take k cs) ≡ c.at + length old
         stands =
             let t : (end_of (c ∷ take k cs) == c.at + length (c ∷ take k cs)) ≡ true = not_not (end_of (c ∷ take k cs) == c.at + length (c ∷ take k cs)) good.joined in
@@ -507,27 +522,34 @@ module _ (bytes old new : List ℕ) (os : List ℕ) (name : is_identifier old �
             not_not : (t : Bool) → not t ≡ false → t ≡ true
             not_not true h = refl
             not_not false h = cc
+
         word : (starts_name c.byte ≡ true) × (list_all is_word_byte (text_of (take k cs)) ≡ true)
         word = and_parts (starts_name c.byte) (list_all is_word_byte (text_of (take k cs))) (ap is_identifier spelled ∙ name)
+
         E_is : E (c ∷ cs) ≡ name_cells (shift c.at) c.line new ++ E (drop k cs)
         E_is = at_place c cs hit ∙ ap (λ n. name_cells (shift c.at) c.line new ++ E (drop n cs)) (let z : length old - 1 ≡ k = omega (arith, size) in z)
+
         no_word : (d : Cell) (ds : List Cell) → drop k cs ≡ d ∷ ds → is_word_byte d.byte ≡ false
         no_word d ds f = must_be_false (is_word_byte d.byte) (λ w. on w (longest_gives (length (text_of (c ∷ cs))) (text_of (c ∷ cs)) (suc k) (Piece kind) e))
           where
             all : text_of cs ≡ text_of (take k cs) ++ (d.byte ∷ text_of ds)
             all = ap text_of (sym (take-append-drop k cs)) ∙ map-append (λ (x : Cell). x.byte) (take k cs) (drop k cs) ∙ ap (λ l. text_of (take k cs) ++ text_of l) f
+
             more : take (suc (suc k)) (text_of (c ∷ cs)) ≡ c.byte ∷ (text_of (take k cs) ++ d.byte ∷ [])
             more = ap (λ l. c.byte ∷ l) (ap (take (suc k)) all ∙ ap (λ n. take n (text_of (take k cs) ++ (d.byte ∷ text_of ds))) (let z : suc k ≡ length (text_of (take k cs)) + 1 = omega (arith, long) in z) ∙ take_over (text_of (take k cs)) (d.byte ∷ text_of ds) 1)
+
             ident : is_word_byte d.byte ≡ true → part_of (take (suc (suc k)) (text_of (c ∷ cs))) ≡ Some (Piece Ident)
             ident w =
                 ap part_of more ∙ word_by c.byte (text_of (take k cs) ++ d.byte ∷ []) word.0
                 ∙ ap (λ t. if t then Some (Piece Ident) else if word_char c.byte (text_of (take k cs) ++ d.byte ∷ []) then Some (Piece Char) else if word_string c.byte (text_of (take k cs) ++ d.byte ∷ []) then Some (Piece Str) else None)
-                  (list_all-append is_word_byte (text_of (take k cs)) (d.byte ∷ []) ∙ ap (λ t. t && (is_word_byte d.byte && true)) word.1 ∙ ap (λ t. t && true) w)
+                (list_all-append is_word_byte (text_of (take k cs)) (d.byte ∷ []) ∙ ap (λ t. t && (is_word_byte d.byte && true)) word.1 ∙ ap (λ t. t && true) w)
+
             on : is_word_byte d.byte ≡ true → Hit (length (text_of (c ∷ cs))) (text_of (c ∷ cs)) (suc k) (Piece kind) ⊎ Missed (length (text_of (c ∷ cs))) (text_of (c ∷ cs)) (suc k) (Piece kind) → ⊥
             on w (inl (x, y, z, none)) =
                 let i : suc (suc k) ≤ length (text_of (c ∷ cs)) = omega (arith, ap length all, length-append (text_of (take k cs)) (d.byte ∷ text_of ds), long) in
                 let bad : Some (Piece Ident) ≡ None = sym (ident w) ∙ none (suc (suc k)) (omega arith) i in cc
             on w (inr (x, stray, none)) = let bad : Piece Ident ≡ Piece Stray = ap Piece (sym good.kind) ∙ stray in cc
+
         ends : (ds : List Cell) → drop k cs ≡ ds → Ends new (text_of (E ds))
         ends [] f = tt
         ends (d ∷ ds) f =
@@ -541,6 +563,7 @@ module _ (bytes old new : List ℕ) (os : List ℕ) (name : is_identifier old �
                 let t : d.byte ∷ text_of ds ≡ old ++ text_of (rest bytes (d.at + length old)) = ap text_of (sym n.2) ∙ (place_rest d.at h).1 in
                 let l : is_word_byte d.byte ≡ true = head_word old name d.byte (text_of ds) (text_of (rest bytes (d.at + length old))) t in
                 let bad : true ≡ false = sym l ∙ w in cc)
+
         by : (xs : List ℕ) → new ≡ xs → is_identifier xs ≡ true → cut b zero (E (c ∷ cs)) ≡ renl (with_token (token b kind c (c ∷ take k cs)) (cut in_line (suc k - 1) cs))
         by [] q f = cc
         by (w ∷ ws) q f =
@@ -551,15 +574,16 @@ module _ (bytes old new : List ℕ) (os : List ℕ) (name : is_identifier old �
           where
             place_end : shift (end_of (c ∷ take k cs)) ≡ shift c.at + length (w ∷ ws)
             place_end = ap shift stands ∙ shifted-place (length old) (length new) os 0 (length bytes) c.at some rise hit ∙ ap (λ l. shift c.at + length l) q
+
             same : token b Ident (record { byte = w; at = shift c.at; line = c.line; trigraph = false }) (name_cells (shift c.at) c.line (w ∷ ws)) ≡ ren (token b kind c (c ∷ take k cs))
             same =
                 ap (λ x. made x (text_of (name_cells (shift c.at) c.line (w ∷ ws))) (end_of (name_cells (shift c.at) c.line (w ∷ ws))) (not (end_of (name_cells (shift c.at) c.line (w ∷ ws)) == shift c.at + length (name_cells (shift c.at) c.line (w ∷ ws))))) (sym good.kind)
                 ∙ ap (λ x. made kind x (end_of (name_cells (shift c.at) c.line (w ∷ ws))) (not (end_of (name_cells (shift c.at) c.line (w ∷ ws)) == shift c.at + length (name_cells (shift c.at) c.line (w ∷ ws)))))
-                  (name_text (shift c.at) c.line (w ∷ ws) ∙ sym q ∙ sym (ap (λ t. if t then new else text_of (c ∷ take k cs)) hit))
+                (name_text (shift c.at) c.line (w ∷ ws) ∙ sym q ∙ sym (ap (λ t. if t then new else text_of (c ∷ take k cs)) hit))
                 ∙ ap (λ x. made kind (if is_among os c.at then new else text_of (c ∷ take k cs)) x (not (end_of (name_cells (shift c.at) c.line (w ∷ ws)) == shift c.at + length (name_cells (shift c.at) c.line (w ∷ ws)))))
-                  (name_end (shift c.at) c.line w ws ∙ sym place_end)
+                (name_end (shift c.at) c.line w ws ∙ sym place_end)
                 ∙ ap (made kind (if is_among os c.at then new else text_of (c ∷ take k cs)) (shift (end_of (c ∷ take k cs))))
-                  (ap not (eq-eqb (end_of (name_cells (shift c.at) c.line (w ∷ ws))) (shift c.at + length (name_cells (shift c.at) c.line (w ∷ ws))) (name_end (shift c.at) c.line w ws ∙ ap (λ n. shift c.at + n) (sym (name_length (shift c.at) c.line (w ∷ ws))))) ∙ sym good.joined)
+                (ap not (eq-eqb (end_of (name_cells (shift c.at) c.line (w ∷ ws))) (shift c.at + length (name_cells (shift c.at) c.line (w ∷ ws))) (name_end (shift c.at) c.line w ws ∙ ap (λ n. shift c.at + n) (sym (name_length (shift c.at) c.line (w ∷ ws))))) ∙ sym good.joined)
 
     kept_part : (part : Part) → Out c.at → longest_part (text_of (c ∷ cs)) ≡ (suc k, part)
         → Placed from (by_part b c cs (λ after n. cut after n cs) (suc k, part)).tokens
@@ -582,10 +606,13 @@ module _ (bytes old new : List ℕ) (os : List ℕ) (name : is_identifier old �
           where
             t0 : Token
             t0 = token b kind c (c ∷ take k cs)
+
             at_end : Placed from (token b kind c (c ∷ take k cs) ∷ (cut in_line zero (drop k cs)).tokens)
             at_end = subst (λ l. Placed from (token b kind c (c ∷ take k cs) ∷ l.tokens)) (cut_after in_line) placed
+
             behind_it : Placed (behind k (c.at + 1) cs) (cut in_line zero (drop k cs)).tokens
             behind_it = placed_rest in_line (token b kind c (c ∷ take k cs)) refl at_end
+
             on : (x : Bool) → is_among os c.at ≡ x → cut b zero (E (c ∷ cs)) ≡ renl (with_token (token b kind c (c ∷ take k cs)) (cut in_line (suc k - 1) cs))
             on false h = kept_piece kind out e h (none_inside in_line (token b kind c (c ∷ take k cs)) refl at_end) false None eo ef (λ f g. behind_it)
             on true h = renamed_piece kind e h (this (at_end c.at rises.0 h)) behind_it
@@ -613,14 +640,17 @@ module _ (bytes old new : List ℕ) (os : List ℕ) (name : is_identifier old �
         where
           rises : Rising from (c ∷ cs)
           rises = subst (Rising from) e (rest_rises bytes from)
+
           here : Placed from (cut b zero (c ∷ cs)).tokens
           here = subst (λ l. Placed from (cut b zero l).tokens) e placed
+
           clear : Out c.at
           clear = subst Out (let z : from + (c.at - from) ≡ c.at = omega (arith, rises.0) in z)
-            (shift_run (c.at - from) from out (λ p a l. must_be_false (is_among os p) (λ h.
+              (shift_run (c.at - from) from out (λ p a l. must_be_false (is_among os p) (λ h.
               let w = here p a h in
               let g = tokens_behind b zero c.at (c ∷ cs) w.0 (omega arith, rises.1) w.1 in
               let at = w.2 in absurd (omega (arith, rises.0))))).1
+
           on : (p : ℕ × Part) → longest_part (text_of (c ∷ cs)) ≡ p → cut b zero (E (rest bytes from)) ≡ renl (cut b zero (rest bytes from))
           on (m, part) f = size_is m f (longest_gives (length (text_of (c ∷ cs))) (text_of (c ∷ cs)) m part f)
             where
@@ -637,6 +667,7 @@ module _ (bytes old new : List ℕ) (os : List ℕ) (name : is_identifier old �
                   small : Hit (length (text_of (c ∷ cs))) (text_of (c ∷ cs)) (suc k) part ⊎ Missed (length (text_of (c ∷ cs))) (text_of (c ∷ cs)) (suc k) part → k ≤ length cs
                   small (inl (x, y, z, w)) = omega (arith, length-map cs (λ (x : Cell). x.byte))
                   small (inr (x, y, z)) = omega arith
+
                   deeper : (b2 : Before) → Out (behind k (c.at + 1) cs) → Placed (behind k (c.at + 1) cs) (cut b2 zero (drop k cs)).tokens → cut b2 zero (E (drop k cs)) ≡ renl (cut b2 zero (drop k cs))
                   deeper b2 o pl =
                       let d = ends_at from c cs k e in

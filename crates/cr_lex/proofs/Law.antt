@@ -1,10 +1,9 @@
 -- Lexing commutes with the renaming.
-use Rattle.std.proofs.Common.{◌≡◌, ℕ, zero, suc, ◌+◌, ◌-◌, ◌<◌, ◌≤◌, ◌⊎◌, inl, inr, Bool, true, false, not, ◌||◌, cond, List, [], ◌∷◌, ◌++◌, length, map, take, drop, get_or, Option, Some, None, refl, ap, sym, ◌∙◌, subst, arith, codes, length-drop, drop-drop}
-use Rattle.std.specs.Prelude.{◌==◌, if◌then◌else◌}
+use Rattle.std.proofs.Common.{◌≡◌, ℕ, zero, suc, ◌+◌, ◌-◌, ◌≤◌, inl, inr, Bool, true, false, not, ◌||◌, cond, List, [], ◌∷◌, length, take, drop, Option, Some, None, refl, ap, sym, ◌∙◌, subst, arith, codes, drop-drop}
+use Rattle.std.specs.Prelude.{◌==◌}
 use Rattle.std.specs.List.{AllByRecursion, Contains}
-use Rattle.std.proofs.lemmas.Bool.{cases_eq, or_cases, or_parts, eqb-true, eq-eqb}
+use Rattle.std.proofs.lemmas.Bool.{or_cases, or_parts, eqb-true, eq-eqb}
 use Rattle.std.proofs.lemmas.List.{drop_more, length-map}
-use Rattle.cr_base.specs.Names.{is_identifier}
 use Rattle.cr_base.specs.Substitution.{Rise, substituted, shifted}
 use Rattle.cr_base.specs.declared.token.PpKind.{PpKind}
 use Rattle.cr_lex.specs.Spellings.{Part, Piece}
@@ -18,7 +17,7 @@ use Rattle.cr_lex.specs.Renaming.{is_among, is_before_quote, IsPlace, IsRenamabl
 use Rattle.cr_lex.proofs.Cells.{rest_end}
 use Rattle.cr_lex.proofs.Marks.{Rising, rest_rises}
 use Rattle.cr_lex.proofs.First.{cut_one, cut_none, skip_cut, rest_next, rest_behind, Rising-behind}
-use Rattle.cr_lex.proofs.Shifting.{IsOut, out}
+use Rattle.cr_lex.proofs.Shifting.{out}
 use Rattle.cr_lex.proofs.Substituted.{IsSpelled, substituted_cells}
 use Rattle.cr_lex.proofs.Edited.{edited}
 use Rattle.cr_lex.proofs.Kept.{In, Placed, IsGood, kept}
@@ -74,24 +73,28 @@ token_raw (suc n) bytes from b t size h joined = by (rest bytes from) refl (λ q
             let g = Rising-behind m (c.at + 1) cs r.1 in
             let d : rest bytes (behind m (c.at + 1) cs) ≡ drop m cs = ap (λ l. rest bytes (behind m (c.at + 1) l)) next.0 ∙ rest_behind bytes m (c.at + 1) ∙ ap (drop m) (sym next.0) in
             ih (behind m (c.at + 1) cs) b2 (omega (arith, r.0, next.1)) (subst (λ l. In t l.tokens) (skip_cut b2 m cs ∙ ap (cut b2 zero) (sym d)) i)
+
         stopped : (l : Lexed) (o : Option ℕ) → (In t l.tokens → IsRaw bytes t) → In t (unless_trigraph l o).tokens → IsRaw bytes t
         stopped l None k i = k i
         stopped l (Some at) k i = absurd i
+
         opened : (x : Bool) (f : Fault) (l : Lexed) → (In t l.tokens → IsRaw bytes t) → In t (cond x (stop f) l).tokens → IsRaw bytes t
         opened true f l k i = absurd i
         opened false f l k i = k i
+
         own : (m : ℕ) (kind : PpKind) (us : List Token) → (In t us → IsRaw bytes t) → In t (token b kind c (take m (c ∷ cs)) ∷ us) → IsRaw bytes t
         own m kind us k (inl same) = subst (IsRaw bytes) same (own_token bytes from m b kind c cs e (ap (λ x. x.joined) same ∙ joined))
         own m kind us k (inr i) = k i
+
         on : (p : ℕ × Part) → In t (by_part b c cs (λ after n. cut after n cs) p).tokens → IsRaw bytes t
         on (m, spellings.Blank) i = later (record b { space = true }) (m - 1) i
         on (m, spellings.Comment) i = later (record b { space = true }) (m - 1) i
         on (m, spellings.LineEnd) i = later (record { first = true; space = true }) (m - 1) i
         on (m, Piece kind) i =
             opened (begins (codes "/*") (text_of (c ∷ cs))) (lexing.OpenComment c.at) _
-              (stopped (with_token (token b kind c (take m (c ∷ cs))) (cut in_line (m - 1) cs)) (first_trigraph (take m (c ∷ cs)))
-                (own m kind (cut in_line (m - 1) cs).tokens (later in_line (m - 1))))
-              i
+            (stopped (with_token (token b kind c (take m (c ∷ cs))) (cut in_line (m - 1) cs)) (first_trigraph (take m (c ∷ cs)))
+            (own m kind (cut in_line (m - 1) cs).tokens (later in_line (m - 1))))
+            i
 
 -- the law
 
@@ -116,9 +119,9 @@ module _ (bytes old new : List ℕ) where
   place_of : (os : List ℕ) (p : ℕ) → AllByRecursion (IsPlace bytes old new) os → is_among os p ≡ true → IsPlace bytes old new p
   place_of [] p h e = cc
   place_of (o ∷ os) p h e = elim (or_cases (o == p) (is_among os p) e) [
-      inl f ↦ subst (IsPlace bytes old new) (eqb-true o p f) h.0
+    | inl f ↦ subst (IsPlace bytes old new) (eqb-true o p f) h.0
     | inr f ↦ place_of os p h.1 f
-    ]
+  ]
 
   good : (t : Token) → IsRenamable bytes old new t → (t.joined ≡ false) × (is_before_quote new (rest bytes t.end) ≡ false)
   good t h = or_parts t.joined (is_before_quote new (rest bytes t.end)) h.spelling
@@ -130,9 +133,10 @@ module _ (bytes old new : List ℕ) where
 
   spelled : (from : ℕ) (os : List ℕ) (s : List ℕ) → s ≡ drop from bytes → Rise from os (length old) (length bytes) → ((p : ℕ) → is_among os p ≡ true → take (length old) (drop p bytes) ≡ old) → IsSpelled old from os s
   spelled from [] s e r raw = tt
-  spelled from (o ∷ os) s e r raw =
-      (ap (λ l. take (length old) (drop (o - from) l)) e ∙ ap (take (length old)) (drop-drop (o - from) from bytes) ∙ ap (λ n. take (length old) (drop n bytes)) (let z : from + (o - from) ≡ o = omega (arith, r.0) in z) ∙ raw o (ap (λ t. t || is_among os o) (eq-eqb o o refl)),
-      spelled (o + length old) os _ (ap (drop (o + length old - from)) e ∙ drop-drop (o + length old - from) from bytes ∙ ap (λ n. drop n bytes) (let z : from + (o + length old - from) ≡ o + length old = omega (arith, r.0) in z)) r.1 (λ p h. raw p (more (o == p) (is_among os p) h)))
+  spelled from (o ∷ os) s e r raw = (
+    ap (λ l. take (length old) (drop (o - from) l)) e ∙ ap (take (length old)) (drop-drop (o - from) from bytes) ∙ ap (λ n. take (length old) (drop n bytes)) (let z : from + (o - from) ≡ o = omega (arith, r.0) in z) ∙ raw o (ap (λ t. t || is_among os o) (eq-eqb o o refl)),
+    spelled (o + length old) os _ (ap (drop (o + length old - from)) e ∙ drop-drop (o + length old - from) from bytes ∙ ap (λ n. drop n bytes) (let z : from + (o + length old - from) ≡ o + length old = omega (arith, r.0) in z)) r.1 (λ p h. raw p (more (o == p) (is_among os p) h)),
+  )
     where
       more : (x y : Bool) → y ≡ true → (x || y) ≡ true
       more true y h = refl
@@ -143,11 +147,11 @@ keeps_lexing bytes old new os name fresh rise places =
     let raw : (p : ℕ) → is_among os p ≡ true → take (length old) (drop p bytes) ≡ old = λ p h. raw_at bytes old new p (place_of bytes old new os p places h) in
     lexed_cells (substituted os (length old) new bytes)
     ∙ ap (cut at_start zero)
-      (substituted_cells (is_among os) (shifted os (length old) (length new)) old new name fresh os 0 0 1 bytes
-        (subst (Rise 0 os (length old)) (let z : length bytes ≡ 0 + length bytes = omega arith in z) rise)
-        (spelled bytes old new 0 os bytes refl rise raw)
-        (λ p l o. omega arith)
-        (λ p l. refl))
+    (substituted_cells (is_among os) (shifted os (length old) (length new)) old new name fresh os 0 0 1 bytes
+    (subst (Rise 0 os (length old)) (let z : length bytes ≡ 0 + length bytes = omega arith in z) rise)
+    (spelled bytes old new 0 os bytes refl rise raw)
+    (λ p l o. omega arith)
+    (λ p l. refl))
     ∙ ap (λ l. cut at_start zero (edited (is_among os) (shifted os (length old) (length new)) (length old) new zero l)) (start_is bytes)
     ∙ kept bytes old new os name fresh rise raw (length bytes) 0 at_start (omega arith) (out (length old) (length new) os 0 (length bytes) 0 rise (omega arith)) placed
     ∙ ap (renamed os old new) (sym (lexed_is bytes))

@@ -1,11 +1,11 @@
 -- Texts that differ in words alone are parts alike.
-use Rattle.std.proofs.Common.{◌≡◌, ℕ, zero, suc, ◌+◌, ◌-◌, ◌<◌, ◌≤◌, ◌⊎◌, inl, inr, Bool, true, false, not, ◌&&◌, ◌||◌, cond, List, [], ◌∷◌, ◌++◌, length, map, take, drop, Option, Some, None, refl, ap, sym, ◌∙◌, subst, arith, codes, length-append, append_assoc}
-use Rattle.std.specs.Prelude.{◌==◌, if◌then◌else◌}
-use Rattle.std.specs.List.{list_all, list_any}
-use Rattle.std.proofs.lemmas.Bool.{cases_Bool, cases_lt, and_parts, or_cases, and_left, eqb-true}
+use Rattle.std.proofs.Common.{◌≡◌, ℕ, Bool, true, false, not, ◌&&◌, ◌||◌, cond, List, [], ◌∷◌, ◌++◌, None, refl, ap, sym, ◌∙◌, arith}
+use Rattle.std.specs.Prelude.{◌==◌}
+use Rattle.std.specs.List.{list_all}
+use Rattle.std.proofs.lemmas.Bool.{and_parts, eqb-true}
 use Rattle.std.proofs.lemmas.Bool.Decides.{nat_tests}
 use Rattle.cr_base.specs.Names.{is_identifier, is_word_byte, is_digit, starts_name}
-use Rattle.cr_lex.specs.Spellings.{part_of, is_blank, is_blank_byte, is_line_end, is_comment, is_number, is_char, is_string, is_punctuator, is_empty, is_one_of, starts_with, is_quoted, is_quoted_char, is_elements_and, is_behind_u8, is_behind_prefix, is_up_to_end, goes_on_behind, goes_on_a_number, is_digit_and_more}
+use Rattle.cr_lex.specs.Spellings.{part_of, is_blank, is_blank_byte, is_line_end, is_comment, is_number, is_char, is_string, is_punctuator, is_empty, starts_with, is_quoted, is_quoted_char, is_elements_and, is_behind_u8, is_up_to_end}
 use Rattle.cr_lex.specs.Scanning.{is_wide, is_not_line_feed}
 use Rattle.cr_lex.proofs.Fronts.{body, body_of, tail, tail_all}
 use Rattle.cr_lex.proofs.Longest.{part_by, decided}
@@ -129,14 +129,14 @@ module _ (old : List ℕ) (name : is_identifier old ≡ true) where
       by e f = ap (λ t. cond (b == 10) false (cond (not escaped && b == q) t (body q (not escaped && b == 92) (old_text old s)))) f ∙ ap (λ t. cond (b == 10) false (cond (not escaped && b == q) (is_empty (new_text s)) t)) e
   same_body q escaped (Word w ∷ s) k h =
       with_letters (λ xs ys. body q escaped (xs ++ old_text old s) ≡ body q escaped (ys ++ new_text s)) w h.0 (λ l m xs ys e f g i.
-        body_over q escaped l xs (old_text old s) k (words (l ∷ xs) (ap (λ t. t && list_all is_word_byte xs) e ∙ g)) ∙ same_body q false s k h.1 ∙ sym (body_over q escaped m ys (new_text s) k (words (m ∷ ys) (ap (λ t. t && list_all is_word_byte ys) f ∙ i))))
+      body_over q escaped l xs (old_text old s) k (words (l ∷ xs) (ap (λ t. t && list_all is_word_byte xs) e ∙ g)) ∙ same_body q false s k h.1 ∙ sym (body_over q escaped m ys (new_text s) k (words (m ∷ ys) (ap (λ t. t && list_all is_word_byte ys) f ∙ i))))
 
   same_tail : (star : Bool) (s : List Segment) → AreWords s → tail star (old_text old s) ≡ tail star (new_text s)
   same_tail star [] h = refl
   same_tail star (Stays b ∷ s) h = ap (λ t. cond (star && b == 47) t (tail (b == 42) (old_text old s))) (same_empty s h) ∙ ap (λ t. cond (star && b == 47) (is_empty (new_text s)) t) (same_tail (b == 42) s h)
   same_tail star (Word w ∷ s) h =
       with_letters (λ xs ys. tail star (xs ++ old_text old s) ≡ tail star (ys ++ new_text s)) w h.0 (λ l m xs ys e f g i.
-        tail_over star l xs (old_text old s) (words (l ∷ xs) (ap (λ t. t && list_all is_word_byte xs) e ∙ g)) ∙ same_tail false s h.1 ∙ sym (tail_over star m ys (new_text s) (words (m ∷ ys) (ap (λ t. t && list_all is_word_byte ys) f ∙ i))))
+      tail_over star l xs (old_text old s) (words (l ∷ xs) (ap (λ t. t && list_all is_word_byte xs) e ∙ g)) ∙ same_tail false s h.1 ∙ sym (tail_over star m ys (new_text s) (words (m ∷ ys) (ap (λ t. t && list_all is_word_byte ys) f ∙ i))))
 
   same_end : (s : List Segment) → AreWords s → is_up_to_end (old_text old s) ≡ is_up_to_end (new_text s)
   same_end s h = tail_all (old_text old s) ∙ same_tail false s h ∙ sym (tail_all (new_text s))
@@ -212,20 +212,20 @@ module _ (old : List ℕ) (name : is_identifier old ≡ true) where
   pub none_alike : (a : ℕ) (s : List Segment) → AreWords s → part_of (a ∷ old_text old s) ≡ None → is_number (a ∷ new_text s) ≡ false → part_of (a ∷ new_text s) ≡ None
   none_alike a s h none num =
       let t = rows (is_blank (a ∷ old_text old s)) (is_line_end (a ∷ old_text old s)) (is_comment (a ∷ old_text old s)) (is_identifier (a ∷ old_text old s)) (is_number (a ∷ old_text old s)) (is_char (a ∷ old_text old s)) (is_string (a ∷ old_text old s)) (is_punctuator (a ∷ old_text old s))
-        (sym (part_by (a ∷ old_text old s) refl refl refl refl refl refl refl refl) ∙ none) in
+      (sym (part_by (a ∷ old_text old s) refl refl refl refl refl refl refl refl) ∙ none) in
       part_by (a ∷ new_text s)
-        (ap (λ t. is_blank_byte a && t) (sym (same_empty s h)) ∙ t.0)
-        (ap (λ t. a == 10 && t) (sym (same_empty s h)) ∙ t.1)
-        (sym (same_comment a s h) ∙ t.2)
-        (ap (λ t. starts_name a && t) (sym (same_words s h)) ∙ t.3)
-        num
-        (ap (λ t. (a == 39 && (not t && is_elements_and 39 (new_text s))) || (is_wide a && is_quoted_char (new_text s))) (sym (same_start 39 s refl h))
-          ∙ ap (λ t. (a == 39 && (not (starts_with 39 (old_text old s)) && t)) || (is_wide a && is_quoted_char (new_text s))) (sym (same_elements 39 s refl refl refl h))
-          ∙ ap (λ t. (a == 39 && (not (starts_with 39 (old_text old s)) && is_elements_and 39 (old_text old s))) || (is_wide a && t)) (sym (same_char s h)) ∙ t.4)
-        (ap (λ t. ((a == 34 && t) || (is_wide a && is_quoted 34 (new_text s))) || is_behind_u8 (is_quoted 34) (a ∷ new_text s)) (sym (same_elements 34 s refl refl refl h))
-          ∙ ap (λ t. ((a == 34 && is_elements_and 34 (old_text old s)) || (is_wide a && t)) || is_behind_u8 (is_quoted 34) (a ∷ new_text s)) (sym (same_quoted s h))
-          ∙ ap (λ t. ((a == 34 && is_elements_and 34 (old_text old s)) || (is_wide a && is_quoted 34 (old_text old s))) || t) (sym (same_u8 a s h)) ∙ t.5)
-        (sym (same_punct a s h) ∙ t.6)
+      (ap (λ t. is_blank_byte a && t) (sym (same_empty s h)) ∙ t.0)
+      (ap (λ t. a == 10 && t) (sym (same_empty s h)) ∙ t.1)
+      (sym (same_comment a s h) ∙ t.2)
+      (ap (λ t. starts_name a && t) (sym (same_words s h)) ∙ t.3)
+      num
+      (ap (λ t. (a == 39 && (not t && is_elements_and 39 (new_text s))) || (is_wide a && is_quoted_char (new_text s))) (sym (same_start 39 s refl h))
+      ∙ ap (λ t. (a == 39 && (not (starts_with 39 (old_text old s)) && t)) || (is_wide a && is_quoted_char (new_text s))) (sym (same_elements 39 s refl refl refl h))
+      ∙ ap (λ t. (a == 39 && (not (starts_with 39 (old_text old s)) && is_elements_and 39 (old_text old s))) || (is_wide a && t)) (sym (same_char s h)) ∙ t.4)
+      (ap (λ t. ((a == 34 && t) || (is_wide a && is_quoted 34 (new_text s))) || is_behind_u8 (is_quoted 34) (a ∷ new_text s)) (sym (same_elements 34 s refl refl refl h))
+      ∙ ap (λ t. ((a == 34 && is_elements_and 34 (old_text old s)) || (is_wide a && t)) || is_behind_u8 (is_quoted 34) (a ∷ new_text s)) (sym (same_quoted s h))
+      ∙ ap (λ t. ((a == 34 && is_elements_and 34 (old_text old s)) || (is_wide a && is_quoted 34 (old_text old s))) || t) (sym (same_u8 a s h)) ∙ t.5)
+      (sym (same_punct a s h) ∙ t.6)
     where
       rows : (bl le co i n c s p : Bool) → decided bl le co i n c s p ≡ None → (bl ≡ false) × (le ≡ false) × (co ≡ false) × (i ≡ false) × (c ≡ false) × (s ≡ false) × (p ≡ false)
       rows true le co i n c s p h = cc

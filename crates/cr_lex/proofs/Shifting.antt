@@ -1,8 +1,7 @@
 -- Where kept bytes and places stand after a substitution.
-use Rattle.std.proofs.Common.{◌≡◌, ℕ, zero, suc, ◌+◌, ◌-◌, ◌<◌, ◌≤◌, ◌⊎◌, inl, inr, Bool, true, false, ◌||◌, cond, List, [], ◌∷◌, length, refl, ap, sym, ◌∙◌, subst, arith}
-use Rattle.std.specs.Prelude.{◌==◌, nat_lt, if◌then◌else◌}
-use Rattle.std.specs.List.{list_any}
-use Rattle.std.proofs.lemmas.Bool.{cases_lt, cases_eq, lt-ltb, le-ltb, eq-eqb, ne_eqb, eqb-true, or_cases, or_parts, eqb-false}
+use Rattle.std.proofs.Common.{◌≡◌, ℕ, ◌+◌, ◌-◌, ◌<◌, ◌≤◌, ◌⊎◌, inl, inr, true, false, List, [], ◌∷◌, refl, ap, sym, ◌∙◌, arith}
+use Rattle.std.specs.Prelude.{◌==◌, if◌then◌else◌}
+use Rattle.std.proofs.lemmas.Bool.{cases_lt, cases_eq, lt-ltb, le-ltb, eqb-true, or_cases, or_parts, eqb-false}
 use Rattle.cr_base.specs.Substitution.{Rise, shifted}
 use Rattle.cr_lex.specs.Renaming.{is_among}
 
@@ -29,9 +28,9 @@ module _ (old new : ℕ) where
       by : ((p ≤ o) ⊎ (o + old ≤ p)) → (o + old ≤ p → o + old ≤ shifted os old new p) → from ≤ shifted (o ∷ os) old new p
       by (inl before) k = let e = shifted-here o p os before ∙ shifted-none os (o + old) end p r.1 (omega arith) in omega arith
       by (inr behind) k = elim (cases_lt o p) [
-          inl l ↦ (let e = shifted-past o p os l in let g = k behind in omega (arith, r.0))
+        | inl l ↦ (let e = shifted-past o p os l in let g = k behind in omega (arith, r.0))
         | inr g ↦ (let e = shifted-here o p os g in let f = k behind in omega (arith, r.0))
-        ]
+      ]
 
   pub out_more : (os : List ℕ) (p : ℕ) → IsOut os p → is_among os p ≡ false → IsOut os (p + 1)
   out_more [] p out h = tt
@@ -50,9 +49,9 @@ module _ (old new : ℕ) where
     where
       by : ((p ≤ o) ⊎ (o + old ≤ p)) → (o ≡ p → ⊥) → shifted os old new (p + 1) ≡ shifted os old new p + 1 → shifted (o ∷ os) old new (p + 1) ≡ shifted (o ∷ os) old new p + 1
       by (inl l) ne ih = elim (cases_eq o p) [
-          inl e ↦ absurd (ne e)
+        | inl e ↦ absurd (ne e)
         | inr d ↦ shifted-here o (p + 1) os (omega arith) ∙ ih ∙ ap (λ x. x + 1) (sym (shifted-here o p os l))
-        ]
+      ]
       by (inr g) ne ih =
           let above = shifted-above os (o + old) end p r.1 g out.1 in
           let a = shifted-past o (p + 1) os (omega arith) in

@@ -1,7 +1,6 @@
 -- The cells of the edited bytes are the edited cells.
-use Rattle.std.proofs.Common.{◌≡◌, ℕ, zero, suc, ◌+◌, ◌-◌, ◌<◌, ◌≤◌, ◌⊎◌, inl, inr, Bool, true, false, ◌||◌, cond, List, [], ◌∷◌, ◌++◌, length, map, take, drop, refl, ap, sym, ◌∙◌, subst, arith, append_assoc, append-nil, take-append-drop, length-append, length-take-le, length-take, length-drop, drop-drop}
-use Rattle.std.specs.Prelude.{◌==◌, if◌then◌else◌}
-use Rattle.std.specs.List.{list_all, list_any}
+use Rattle.std.proofs.Common.{◌≡◌, ℕ, zero, ◌+◌, ◌-◌, ◌<◌, ◌≤◌, inl, inr, Bool, true, false, ◌||◌, List, [], ◌∷◌, ◌++◌, length, map, take, drop, refl, ap, sym, ◌∙◌, subst, arith, append_assoc, append-nil, take-append-drop, length-append, length-take-le, drop-drop}
+use Rattle.std.specs.List.{list_all}
 use Rattle.std.proofs.lemmas.Bool.{ne_eqb, eq-eqb, and_parts}
 use Rattle.cr_base.specs.Names.{is_identifier, is_word_byte, starts_name}
 use Rattle.cr_base.specs.Substitution.{Rise, substituted_from, shifted}
@@ -45,9 +44,9 @@ module _ (place : ℕ → Bool) (shift : ℕ → ℕ) (old new : List ℕ) (name
   parts o from s h e =
       sym (take-append-drop (o - from) s)
       ∙ ap (λ l. take (o - from) s ++ l)
-        (sym (take-append-drop (length old) (drop (o - from) s))
-        ∙ ap (λ l. l ++ drop (length old) (drop (o - from) s)) e
-        ∙ ap (λ l. old ++ l) (drop-drop (length old) (o - from) s ∙ ap (λ n. drop n s) (let k : o - from + length old ≡ o + length old - from = omega arith in k)))
+      (sym (take-append-drop (length old) (drop (o - from) s))
+      ∙ ap (λ l. l ++ drop (length old) (drop (o - from) s)) e
+      ∙ ap (λ l. old ++ l) (drop-drop (length old) (o - from) s ∙ ap (λ n. drop n s) (let k : o - from + length old ≡ o + length old - from = omega arith in k)))
 
   pub substituted_cells : (os : List ℕ) (from to line : ℕ) (s : List ℕ)
       → Rise from os (length old) (from + length s) → IsSpelled old from os s
@@ -64,15 +63,17 @@ module _ (place : ℕ → Bool) (shift : ℕ → ℕ) (old new : List ℕ) (name
       let back : List ℕ = drop (o + length old - from) s in
       let split = parts o from s r.0 sp.0 in
       by (length-of split) (substituted_cells os (o + length old) (to + length (take (o - from) s) + length new) (lines_over line (take (o - from) s)) (drop (o + length old - from) s)
-        (rise (length-of split)) sp.1 (moves (length-of split)) places)
+      (rise (length-of split)) sp.1 (moves (length-of split)) places)
     where
       length-of : s ≡ take (o - from) s ++ (old ++ drop (o + length old - from) s) → (length (take (o - from) s) ≡ o - from) × (length s ≡ o - from + length old + length (drop (o + length old - from) s))
       length-of e =
           let sum : length s ≡ length (take (o - from) s) + (length old + length (drop (o + length old - from) s)) = ap length e ∙ length-append (take (o - from) s) (old ++ drop (o + length old - from) s) ∙ ap (λ n. length (take (o - from) s) + n) (length-append old (drop (o + length old - from) s)) in
           let long : length (take (o - from) s) ≡ o - from = length-take-le (o - from) s (let k = rise_end os (length old) (o + length old) (from + length s) r.1 in omega (arith, r.0)) in
           (long, omega arith)
+
       rise : (length (take (o - from) s) ≡ o - from) × (length s ≡ o - from + length old + length (drop (o + length old - from) s)) → Rise (o + length old) os (length old) (o + length old + length (drop (o + length old - from) s))
       rise l = subst (Rise (o + length old) os (length old)) (let k : from + length s ≡ o + length old + length (drop (o + length old - from) s) = omega (arith, l.1, r.0) in k) r.1
+
       moves : (length (take (o - from) s) ≡ o - from) × (length s ≡ o - from + length old + length (drop (o + length old - from) s)) → (p : ℕ) → o + length old ≤ p → IsOut (length old) (length new) os p → shift p + (o + length old) ≡ to + length (take (o - from) s) + length new + shifted os (length old) (length new) p
       moves l p g out =
           let k = sh p (omega (arith, r.0)) (inr g, out) in
@@ -80,11 +81,13 @@ module _ (place : ℕ → Bool) (shift : ℕ → ℕ) (old new : List ℕ) (name
           let past = shifted-past (length old) (length new) o p os (omega arith) in
           let above = shifted-above (length old) (length new) os (o + length old) (from + length s) p r.1 g out in
           omega (arith, l.0, r.0)
+
       places : (p : ℕ) → o + length old ≤ p → place p ≡ is_among os p
       places p g = let n = some old name in pl p (omega (arith, r.0)) ∙ ap (λ t. t || is_among os p) (ne_eqb o p (λ e. omega arith))
+
       by : (length (take (o - from) s) ≡ o - from) × (length s ≡ o - from + length old + length (drop (o + length old - from) s))
           → cells zero (to + length (take (o - from) s) + length new) (lines_over line (take (o - from) s)) (substituted_from (o + length old) os (length old) new (drop (o + length old - from) s))
-            ≡ edited place shift (length old) new zero (cells zero (o + length old) (lines_over line (take (o - from) s)) (drop (o + length old - from) s))
+          ≡ edited place shift (length old) new zero (cells zero (o + length old) (lines_over line (take (o - from) s)) (drop (o + length old - from) s))
           → cells zero to line (substituted_from from (o ∷ os) (length old) new s) ≡ edited place shift (length old) new zero (cells zero from line s)
       by l ih =
           new_side ih ∙ sym (old_side l)
@@ -97,20 +100,24 @@ module _ (place : ℕ → Bool) (shift : ℕ → ℕ) (old new : List ℕ) (name
               ap (cells zero to line) (append_assoc (take (o - from) s) new (substituted_from (o + length old) os (length old) new (drop (o + length old - from) s)))
               ∙ cells_split (take (o - from) s) new (substituted_from (o + length old) os (length old) new (drop (o + length old - from) s)) to line fresh
               ∙ ap (λ cs. cells zero to line (take (o - from) s) ++ (name_cells (to + length (take (o - from) s)) (lines_over line (take (o - from) s)) new ++ cs)) ih
+
           no_place : (length (take (o - from) s) ≡ o - from) × (length s ≡ o - from + length old + length (drop (o + length old - from) s)) → NoPlace place shift (length old) new from (from + length (take (o - from) s))
           no_place l p a b = pl p a ∙ ap (λ t. t || is_among os p) (ne_eqb o p (λ e. omega (arith, l.0, r.0))) ∙ later (is_among os p) refl
             where
               later : (t : Bool) → is_among os p ≡ t → is_among os p ≡ false
               later true e = let k = among-above (length old) (length new) os (o + length old) (from + length s) p r.1 e in absurd (omega (arith, l.0, r.0))
               later false e = e
+
           here : (length (take (o - from) s) ≡ o - from) × (length s ≡ o - from + length old + length (drop (o + length old - from) s)) → place (from + length (take (o - from) s)) ≡ true
           here l = pl (from + length (take (o - from) s)) (omega arith) ∙ ap (λ t. t || is_among os (from + length (take (o - from) s))) (eq-eqb o (from + length (take (o - from) s)) (omega (arith, l.0, r.0)))
+
           stays : (length (take (o - from) s) ≡ o - from) × (length s ≡ o - from + length old + length (drop (o + length old - from) s)) → (i : ℕ) → i ≤ length (take (o - from) s) → shift (from + i) ≡ to + i
           stays l i g =
               let k = sh (from + i) (omega arith) (inl (omega (arith, l.0, r.0)), out (length old) (length new) os (o + length old) (from + length s) (from + i) r.1 (omega (arith, l.0, r.0))) in
               let a = shifted-here (length old) (length new) o (from + i) os (omega (arith, l.0, r.0)) in
               let b = shifted-none (length old) (length new) os (o + length old) (from + length s) (from + i) r.1 (omega (arith, l.0, r.0)) in
               omega arith
+
           old_side : (length (take (o - from) s) ≡ o - from) × (length s ≡ o - from + length old + length (drop (o + length old - from) s))
               → edited place shift (length old) new zero (cells zero from line s)
               ≡ cells zero to line (take (o - from) s) ++ (name_cells (to + length (take (o - from) s)) (lines_over line (take (o - from) s)) new ++ edited place shift (length old) new zero (cells zero (o + length old) (lines_over line (take (o - from) s)) (drop (o + length old - from) s)))
@@ -120,6 +127,6 @@ module _ (place : ℕ → Bool) (shift : ℕ → ℕ) (old new : List ℕ) (name
               ∙ edited_before place shift (length old) new (take (o - from) s) zero from line _ (no_place l)
               ∙ ap (λ cs. cs ++ edited place shift (length old) new zero (name_cells (from + length (take (o - from) s)) (lines_over line (take (o - from) s)) old ++ cells zero (from + length (take (o - from) s) + length old) (lines_over line (take (o - from) s)) (drop (o + length old - from) s))) (cells_moved shift (take (o - from) s) zero from to line (λ i g. stays l i (omega arith)))
               ∙ ap (λ cs. cells zero to line (take (o - from) s) ++ cs)
-                (edited_name (from + length (take (o - from) s)) (lines_over line (take (o - from) s)) _ (here l)
-                ∙ ap (λ n. name_cells n (lines_over line (take (o - from) s)) new ++ edited place shift (length old) new zero (cells zero (from + length (take (o - from) s) + length old) (lines_over line (take (o - from) s)) (drop (o + length old - from) s))) (stays l (length (take (o - from) s)) (omega arith))
-                ∙ ap (λ n. name_cells (to + length (take (o - from) s)) (lines_over line (take (o - from) s)) new ++ edited place shift (length old) new zero (cells zero (n + length old) (lines_over line (take (o - from) s)) (drop (o + length old - from) s))) (let k : from + length (take (o - from) s) ≡ o = omega (arith, l.0, r.0) in k))
+              (edited_name (from + length (take (o - from) s)) (lines_over line (take (o - from) s)) _ (here l)
+              ∙ ap (λ n. name_cells n (lines_over line (take (o - from) s)) new ++ edited place shift (length old) new zero (cells zero (from + length (take (o - from) s) + length old) (lines_over line (take (o - from) s)) (drop (o + length old - from) s))) (stays l (length (take (o - from) s)) (omega arith))
+              ∙ ap (λ n. name_cells (to + length (take (o - from) s)) (lines_over line (take (o - from) s)) new ++ edited place shift (length old) new zero (cells zero (n + length old) (lines_over line (take (o - from) s)) (drop (o + length old - from) s))) (let k : from + length (take (o - from) s) ≡ o = omega (arith, l.0, r.0) in k))

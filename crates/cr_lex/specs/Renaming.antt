@@ -1,5 +1,5 @@
 -- A file with a new name at places of an old one, and its tokens.
-use Rattle.std.specs.Prelude.{ℕ, ◌≡◌, ◌+◌, Bool, true, false, ◌&&◌, ◌||◌, ◌==◌, List, [], ◌∷◌, length, map, bytes_eq, codes, if◌then◌else◌}
+use Rattle.std.specs.Prelude.{ℕ, ◌≡◌, Bool, true, false, ◌&&◌, ◌||◌, ◌==◌, List, [], ◌∷◌, length, map, bytes_eq, codes, if◌then◌else◌}
 use Rattle.std.specs.List.{list_any, AllByRecursion, Contains}
 use Rattle.std.specs.Option.{option_map}
 use Rattle.cr_base.specs.Names.{is_identifier}
@@ -42,10 +42,10 @@ IsPlace bytes old new offset = (t : Token) × Contains (lexed bytes).tokens t ×
 -- a token with its spelling changed at the offsets, where it stands afterwards
 abbrev pub renamed_token : List ℕ → List ℕ → List ℕ → Token → Token
 renamed_token offsets old new t = record t {
-    text = if is_among offsets t.at then new else t.text;
-    at = shifted offsets (length old) (length new) t.at;
-    end = shifted offsets (length old) (length new) t.end;
-  }
+  text = if is_among offsets t.at then new else t.text;
+  at = shifted offsets (length old) (length new) t.at;
+  end = shifted offsets (length old) (length new) t.end;
+}
 
 abbrev pub shifted_fault : (ℕ → ℕ) → Fault → Fault
 shifted_fault shift (OpenComment at) = OpenComment (shift at)
@@ -54,9 +54,9 @@ shifted_fault shift (Trigraph at) = Trigraph (shift at)
 -- tokens and fault of a file with spellings changed and places shifted
 abbrev pub renamed : List ℕ → List ℕ → List ℕ → Lexed → Lexed
 renamed offsets old new l = record {
-    tokens = map (renamed_token offsets old new) l.tokens;
-    fault = option_map (shifted_fault (shifted offsets (length old) (length new))) l.fault;
-  }
+  tokens = map (renamed_token offsets old new) l.tokens;
+  fault = option_map (shifted_fault (shifted offsets (length old) (length new))) l.fault;
+}
 
 -- Where the old name is replaced at places of identifiers that are spelled so, and the new name can be spelled there,
 -- the tokens are the old ones with spellings changed at these places and places shifted, and the fault is the old one.
