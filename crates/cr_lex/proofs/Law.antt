@@ -24,7 +24,7 @@ use Rattle.cr_lex.proofs.Kept.{In, Placed, IsGood, kept}
 
 -- A token without a join inside is written in the bytes as it is.
 
-end_far : (d : Cell) (cs : List Cell) (k : ℕ) → Rising (d.at + 1) cs → d.at + suc (length (take k cs)) ≤ end_of (d ∷ take k cs)
+pub end_far : (d : Cell) (cs : List Cell) (k : ℕ) → Rising (d.at + 1) cs → d.at + suc (length (take k cs)) ≤ end_of (d ∷ take k cs)
 end_far d cs zero r = omega arith
 end_far d [] (suc k) r = omega arith
 end_far d (c ∷ cs) (suc k) r = let h = end_far c cs k r.1 in omega (arith, r.0)
@@ -98,7 +98,7 @@ token_raw (suc n) bytes from b t size h joined = by (rest bytes from) refl (λ q
 
 -- the law
 
-lexed_is : (bytes : List ℕ) → lexed bytes ≡ cut at_start zero (rest bytes 0)
+pub lexed_is : (bytes : List ℕ) → lexed bytes ≡ cut at_start zero (rest bytes 0)
 unfolding lexed rest
 lexed_is bytes = refl
 

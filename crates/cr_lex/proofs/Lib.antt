@@ -16,6 +16,7 @@ pub mod Segments
 pub mod Keeping
 pub mod Kept
 pub mod Law
+pub mod InOrder
 pub mod Spots
 pub mod Plain
 pub mod Runs

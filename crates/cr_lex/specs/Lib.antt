@@ -5,4 +5,5 @@ pub mod Scanning
 pub mod Standing
 pub mod Seen
 pub mod Lexers
+pub mod Order
 pub mod Renaming

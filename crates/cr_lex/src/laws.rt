@@ -1,4 +1,5 @@
-//! The law of lexing and renaming.
+//! Laws of lexing.
+ghost use Rattle.cr_lex.specs.Order.{StandsInOrder};
 ghost use Rattle.cr_lex.specs.Renaming.{KeepsLexing};
 
 /// Where an old name is replaced by a new one at places of identifiers that are spelled so, and the new
@@ -6,4 +7,10 @@ ghost use Rattle.cr_lex.specs.Renaming.{KeepsLexing};
 /// these places and places shifted, and the fault is the old one. It does nothing: its contract is the law.
 pub fn renaming_keeps_lexing()
     ensures { KeepsLexing }
+{}
+
+/// The tokens of a file stand in its bytes one behind another, each at least as long as its text. It does
+/// nothing: its contract is the law.
+pub fn tokens_stand_in_order()
+    ensures { StandsInOrder }
 {}

@@ -15,7 +15,7 @@ mod text;
 
 pub use fault::{LexFault, LexStep, Lexed};
 pub use kind::token_kind;
-pub use laws::renaming_keeps_lexing;
+pub use laws::{renaming_keeps_lexing, tokens_stand_in_order};
 pub use lexer::{Lexer, lex};
 
 #[cfg(test)]
