@@ -5,7 +5,8 @@ use Rattle.std.proofs.lemmas.Bool.{cases_Bool}
 use Rattle.std.proofs.lemmas.List.{drop_more}
 use Rattle.std.proofs.lemmas.List.Sums.{count_by_more_no, count_by_more_yes}
 use Rattle.cr_lex.specs.Joins.{Cell, cells, join_len, begins, joined_from, unless_joined, line_after, is_trigraph}
-use Rattle.cr_lex.specs.Scanning.{rest, line_at, cell_of}
+use Rattle.cr_lex.specs.Scanning.{cell_of}
+use Rattle.cr_lex.specs.Joins.{rest, line_at}
 
 line_more : (bytes : List ℕ) (at : ℕ) → at < length bytes → line_at bytes (at + 1) ≡ line_after (line_at bytes at) (get_or bytes at 0)
 line_more bytes at h = by (cases_Bool (get_or bytes at 0 == 10))

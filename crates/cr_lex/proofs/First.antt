@@ -5,7 +5,8 @@ use Rattle.cr_base.specs.declared.token.PpKind.TheVariants.{Punct}
 use Rattle.cr_lex.specs.Spellings as spellings
 use Rattle.cr_lex.specs.Joins.{Cell, join_len, text_of, begins}
 use Rattle.cr_lex.specs.Lexing.{Before, Lexed, longest_part, by_part, cut, stop, token, with_token, unless_trigraph, first_trigraph, end_of, OpenComment}
-use Rattle.cr_lex.specs.Scanning.{rest, cell_of, behind, AreMarks, Unclosed, upto, own_cells}
+use Rattle.cr_lex.specs.Scanning.{cell_of, behind, AreMarks, Unclosed, upto, own_cells}
+use Rattle.cr_lex.specs.Joins.{rest}
 use Rattle.cr_lex.specs.Standing.{in_line, found_gives}
 use Rattle.cr_lex.specs.declared.part.Marks.{Marks}
 use Rattle.cr_lex.specs.declared.part.Found.{Found}

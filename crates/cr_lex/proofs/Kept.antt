@@ -14,7 +14,8 @@ use Rattle.cr_lex.specs.Spellings as spellings
 use Rattle.cr_lex.specs.Joins.{Cell, text_of, begins, join_len}
 use Rattle.cr_lex.specs.Lexing.{Token, Lexed, Fault, Before, longest_part, by_part, piece, cut, stop, token, with_token, unless_trigraph, first_trigraph, end_of}
 use Rattle.cr_lex.specs.Lexing as lexing
-use Rattle.cr_lex.specs.Scanning.{rest, behind}
+use Rattle.cr_lex.specs.Scanning.{behind}
+use Rattle.cr_lex.specs.Joins.{rest}
 use Rattle.cr_lex.specs.Standing.{in_line}
 use Rattle.cr_lex.specs.Renaming.{is_among, is_before_quote, shifted_fault, could_prefix}
 use Rattle.cr_lex.proofs.Marks.{Rising, rest_rises}

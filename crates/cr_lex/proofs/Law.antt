@@ -11,7 +11,8 @@ use Rattle.cr_lex.specs.Spellings as spellings
 use Rattle.cr_lex.specs.Joins.{Cell, cells, text_of, begins}
 use Rattle.cr_lex.specs.Lexing.{Token, Lexed, Fault, Before, longest_part, by_part, cut, stop, token, with_token, unless_trigraph, first_trigraph, end_of, lexed, at_start}
 use Rattle.cr_lex.specs.Lexing as lexing
-use Rattle.cr_lex.specs.Scanning.{rest, behind}
+use Rattle.cr_lex.specs.Scanning.{behind}
+use Rattle.cr_lex.specs.Joins.{rest}
 use Rattle.cr_lex.specs.Standing.{in_line}
 use Rattle.cr_lex.specs.Renaming.{is_among, is_before_quote, IsPlace, IsRenamable, renamed, KeepsLexing}
 use Rattle.cr_lex.proofs.Cells.{rest_end}

@@ -3,7 +3,8 @@ use Rattle.std.proofs.Common.{◌≡◌, ℕ, zero, suc, ◌+◌, ◌-◌, ◌�
 use Rattle.std.specs.Prelude.{◌==◌}
 use Rattle.std.proofs.lemmas.Bool.{eq-eqb}
 use Rattle.cr_lex.specs.Joins.{Cell, cells, joined_from, unless_joined}
-use Rattle.cr_lex.specs.Scanning.{rest, closed, Unclosed, ok}
+use Rattle.cr_lex.specs.Scanning.{closed, Unclosed, ok}
+use Rattle.cr_lex.specs.Joins.{rest}
 
 -- the cells stand in order, from an offset on
 abbrev pub Rising : ℕ → List Cell → Type 0

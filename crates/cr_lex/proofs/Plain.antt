@@ -5,7 +5,8 @@ use Rattle.std.proofs.lemmas.Bool.{lt-ltb, le-ltb, eq-eqb}
 use Rattle.std.proofs.lemmas.List.{drop_more, length-map}
 use Rattle.std.proofs.lemmas.List.Sums.{sum_by-append, count_by-le-length}
 use Rattle.cr_lex.specs.Joins.{Cell, text_of}
-use Rattle.cr_lex.specs.Scanning.{rest, line_at, cell_of, upto, own_cells}
+use Rattle.cr_lex.specs.Scanning.{cell_of, upto, own_cells}
+use Rattle.cr_lex.specs.Joins.{rest, line_at}
 use Rattle.cr_lex.specs.Standing.{IsPlain}
 use Rattle.cr_lex.proofs.Cells.{rest_byte}
 use Rattle.cr_lex.proofs.Marks.{Rising, rest_rises}

@@ -2,7 +2,8 @@
 use Rattle.std.proofs.Common.{◌≡◌, ◌∙◌, ◌<◌, ◌≤◌, ℕ, zero, Bool, true, false, List, [], ◌∷◌, None, length, refl, ap, sym, subst, arith}
 use Rattle.cr_lex.specs.Joins.{Cell}
 use Rattle.cr_lex.specs.Lexing.{Before, Token, token, with_token, unless_trigraph, first_trigraph, cut, lexed}
-use Rattle.cr_lex.specs.Scanning.{AreMarks, Unclosed, rest, cell_of, own_cells}
+use Rattle.cr_lex.specs.Scanning.{AreMarks, Unclosed, cell_of, own_cells}
+use Rattle.cr_lex.specs.Joins.{rest}
 use Rattle.cr_lex.specs.Standing.{IsSpot, left_at, given, in_line}
 use Rattle.cr_lex.specs.declared.spot.Own.{Own}
 use Rattle.cr_lex.specs.declared.spot.Ahead.{Ahead}

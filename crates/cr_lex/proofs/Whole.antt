@@ -13,7 +13,8 @@ use Rattle.cr_lex.specs.Spellings as spellings
 use Rattle.cr_lex.specs.Spellings.{Piece, part_of, token_kind, is_blank, is_blank_byte, is_line_end, is_comment, is_number, is_char, is_string, is_punctuator, is_empty, is_one_of, is_up_to_end}
 use Rattle.cr_lex.specs.Joins.{Cell, join_len, text_of, begins}
 use Rattle.cr_lex.specs.Lexing.{longest, longest_part, or_shorter}
-use Rattle.cr_lex.specs.Scanning.{rest, behind, IsByte, part_behind, whole_kind, is_not_line_feed}
+use Rattle.cr_lex.specs.Scanning.{behind, IsByte, part_behind, whole_kind, is_not_line_feed}
+use Rattle.cr_lex.specs.Joins.{rest}
 use Rattle.cr_lex.specs.declared.cell.Byte.{Byte}
 use Rattle.cr_lex.specs.declared.part.Found.{Found}
 use Rattle.cr_lex.specs.declared.part.Found.TheVariants as found

@@ -1,5 +1,5 @@
 -- The bytes of a file without joined lines, and the trigraphs in them (C11 5.1.1.2, phases 1 and 2).
-use Rattle.std.specs.Prelude.{ℕ, zero, suc, ◌+◌, ◌-◌, Bool, true, false, ◌&&◌, ◌==◌, List, [], ◌∷◌, map, codes, if◌then◌else◌}
+use Rattle.std.specs.Prelude.{ℕ, zero, suc, ◌+◌, ◌-◌, Bool, true, false, ◌&&◌, ◌==◌, List, [], ◌∷◌, map, take, drop, count_by, codes, if◌then◌else◌}
 use Rattle.cr_lex.specs.Spellings.{is_one_of}
 
 -- the bytes begin with these
@@ -50,3 +50,11 @@ cells skip at line (b ∷ bs) =
 -- what is written in some cells
 abbrev pub text_of : List Cell → List ℕ
 text_of = map (λ c. c.byte)
+
+-- one more than the line feeds before an offset
+abbrev pub line_at : List ℕ → ℕ → ℕ
+line_at bytes at = 1 + count_by (λ b. b == 10) (take at bytes)
+
+-- the cells from an offset on, which is not inside a join
+unfoldable pub rest : List ℕ → ℕ → List Cell
+rest bytes at = cells zero at (line_at bytes at) (drop at bytes)

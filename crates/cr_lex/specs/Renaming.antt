@@ -7,7 +7,7 @@ use Rattle.cr_base.specs.Substitution.{Rise, substituted, shifted}
 use Rattle.cr_base.specs.declared.token.PpKind.TheVariants.{Ident}
 use Rattle.cr_lex.specs.Joins.{Cell}
 use Rattle.cr_lex.specs.Lexing.{Token, Fault, OpenComment, Trigraph, Lexed, lexed}
-use Rattle.cr_lex.specs.Scanning.{rest}
+use Rattle.cr_lex.specs.Joins.{rest}
 
 -- an offset is one of these
 abbrev pub is_among : List ℕ → ℕ → Bool

@@ -1,25 +1,16 @@
--- How the code goes over a file: a part by its first byte, and then byte by byte. No public clause says more of
--- these than `Lexing` does.
-use Rattle.std.specs.Prelude.{ℕ, zero, suc, ◌≡◌, ◌+◌, ◌<◌, ◌≤◌, Bool, false, not, ◌&&◌, ◌||◌, ◌==◌, List, [], ◌∷◌, take, drop, length, count_by, slice_index, nat_lt, codes, Option, Some, None, Result, Ok, Err, if◌then◌else◌}
+-- How the code goes over a file: a part by its first byte, and then byte by byte. No public clause rests on these.
+use Rattle.std.specs.Prelude.{ℕ, zero, suc, ◌≡◌, ◌+◌, ◌<◌, ◌≤◌, Bool, false, not, ◌&&◌, ◌||◌, ◌==◌, List, [], ◌∷◌, drop, length, slice_index, nat_lt, codes, Option, Some, None, Result, Ok, Err, if◌then◌else◌}
 use Rattle.std.specs.Option.{option_map, unwrap_or}
 use Rattle.cr_base.specs.Names.{is_digit, is_word_byte, starts_name}
 use Rattle.cr_base.specs.declared.token.PpKind.{PpKind}
 use Rattle.cr_base.specs.declared.token.PpKind.TheVariants.{Ident, Number, Char, Str, Punct, Stray}
 use Rattle.cr_lex.specs.Spellings.{is_one_of, goes_on_behind, is_pair, is_triple, is_blank_byte}
-use Rattle.cr_lex.specs.Joins.{Cell, cells, is_trigraph}
+use Rattle.cr_lex.specs.Joins.{rest, line_at, Cell, is_trigraph}
 use Rattle.cr_lex.specs.declared.part.Found.{Found}
 use Rattle.cr_lex.specs.declared.part.Found.TheVariants as found
 use Rattle.cr_lex.specs.declared.part.Part.{Part}
 use Rattle.cr_lex.specs.declared.part.Marks.{Marks}
 use Rattle.cr_lex.specs.declared.cell.Byte.{Byte}
-
--- one more than the line feeds before an offset
-abbrev pub line_at : List ℕ → ℕ → ℕ
-line_at bytes at = 1 + count_by (λ b. b == 10) (take at bytes)
-
--- the cells from an offset on, which is not inside a join
-unfoldable pub rest : List ℕ → ℕ → List Cell
-rest bytes at = cells zero at (line_at bytes at) (drop at bytes)
 
 -- the cell of a byte
 abbrev pub cell_of : List ℕ → ℕ → Cell
@@ -229,10 +220,6 @@ IsReachedAt bytes from end (Some at) = (from ≤ at) × (at ≤ length bytes) ×
 abbrev pub IsClosed : List ℕ → ℕ → Result ℕ ℕ → Result ℕ ℕ → Type 0
 IsClosed bytes from end (Ok at) = (from ≤ at) × (at ≤ length bytes) × (end ≡ Ok at)
 IsClosed bytes from end (Err at) = end ≡ Err at
-
--- a literal's end, or that there is none
-abbrev pub IsEnd : List ℕ → ℕ → Option ℕ → Option ℕ → Type 0
-IsEnd bytes from end at = IsReachedAt bytes from end at
 
 -- a part that ends within the bytes
 abbrev pub IsPart : List ℕ → ℕ → Part → Part → Type 0

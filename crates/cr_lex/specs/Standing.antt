@@ -3,7 +3,8 @@ use Rattle.std.specs.Prelude.{ℕ, zero, ◌≡◌, ◌<◌, ◌≤◌, false, t
 use Rattle.cr_lex.specs.Joins.{join_len}
 use Rattle.cr_lex.specs.Lexing.{Before, Lexed, cut, stop, token, with_token, unless_trigraph, first_trigraph, end_of}
 use Rattle.cr_lex.specs.Lexing as lexing
-use Rattle.cr_lex.specs.Scanning.{rest, line_at, cell_of, own_cells, AreMarks}
+use Rattle.cr_lex.specs.Scanning.{cell_of, own_cells, AreMarks}
+use Rattle.cr_lex.specs.Joins.{rest, line_at}
 use Rattle.cr_lex.specs.declared.part.Found.{Found}
 use Rattle.cr_lex.specs.declared.part.Found.TheVariants as found
 use Rattle.cr_lex.specs.declared.spot.Spot.{Spot}

@@ -1,7 +1,8 @@
 //! The bytes of a file that are no part of a joined line.
 ghost use Rattle.std.specs.Prelude.{MatchOption, ◌≡◌, ◌<◌, ◌≤◌, ◌+◌, ◌∷◌, [], length, drop, slice_index};
 ghost use Rattle.cr_lex.specs.Joins as joins;
-ghost use Rattle.cr_lex.specs.Scanning.{rest, IsByte};
+ghost use Rattle.cr_lex.specs.Scanning.{IsByte};
+ghost use Rattle.cr_lex.specs.Joins.{rest};
 
 /// A byte in no join, and its offset.
 #[derive(Clone, Copy)]

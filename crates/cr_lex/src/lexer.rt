@@ -5,7 +5,8 @@ ghost use Rattle.cr_base.specs.NameTable.{with_text, IsDistinct};
 ghost use Rattle.cr_base.specs.NameTable.{Interns};
 ghost use Rattle.cr_lex.specs.Joins.{text_of};
 ghost use Rattle.cr_lex.specs.Lexing.{lexed, token};
-ghost use Rattle.cr_lex.specs.Scanning.{line_at, cell_of, own_cells};
+ghost use Rattle.cr_lex.specs.Scanning.{cell_of, own_cells};
+ghost use Rattle.cr_lex.specs.Joins.{line_at};
 ghost use Rattle.cr_lex.specs.Seen.{seen, place, IsOf, IsStep, fault_in, with_texts, first_of, Extends};
 ghost use Rattle.std.specs.List.{AllByRecursion};
 ghost use Rattle.cr_lex.specs.Standing.{IsSpot, IsOwn, before, left_at};
@@ -116,8 +117,8 @@ fn behind_token(own: Own, line: usize) -> Spot
 }
 
 impl Lexer {
-    #[tactic(auto, unfolding(crate::specs::Lexers::left, crate::specs::Lexers::IsIn))]
     /// The beginning of a file.
+    #[tactic(auto, unfolding(crate::specs::Lexers::left, crate::specs::Lexers::IsIn))]
     pub fn new(file: PathNo) -> Lexer
         ensures file { result.file ≡ file }
         ensures within { (bytes : ListOf ℕ) → IsIn bytes result }
@@ -129,10 +130,10 @@ impl Lexer {
         }
     }
 
-    #[tactic(auto, unfolding(crate::specs::Lexers::left, crate::specs::Lexers::IsIn))]
     /// The next token of a file's bytes, or that there is none: at the end, or for a fault, which
     /// comes again at each further call. The bytes are those of the calls before. Where no memory is
     /// found, the lexer and the table of names are as they were.
+    #[tactic(auto, unfolding(crate::specs::Lexers::left, crate::specs::Lexers::IsIn))]
     pub fn next(
         &mut self,
         alloc: Global,

@@ -1,7 +1,8 @@
 //! Character constants and string literals (C11 6.4.4.4, 6.4.5).
 ghost use Rattle.std.specs.Prelude.{◌≡◌, ◌≤◌, ◌+◌, length};
 ghost use Rattle.cr_lex.specs.Scanning as scanning;
-ghost use Rattle.cr_lex.specs.Scanning.{rest, IsByte, AreMarks, IsReachedAt, IsPartAt};
+ghost use Rattle.cr_lex.specs.Scanning.{IsByte, AreMarks, IsReachedAt, IsPartAt};
+ghost use Rattle.cr_lex.specs.Joins.{rest};
 
 use crate::cell::{Byte, byte_from};
 use crate::part::{Found, Marks, Part};

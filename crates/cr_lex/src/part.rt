@@ -2,7 +2,8 @@
 ghost use Rattle.std.specs.Prelude.{◌≡◌, ◌≤◌, ◌+◌, length, false};
 ghost use Rattle.cr_lex.specs.Spellings as spellings;
 ghost use Rattle.cr_lex.specs.Scanning as scanning;
-ghost use Rattle.cr_lex.specs.Scanning.{rest, IsByte, AreMarks, IsPart};
+ghost use Rattle.cr_lex.specs.Scanning.{IsByte, AreMarks, IsPart};
+ghost use Rattle.cr_lex.specs.Joins.{rest};
 
 use crate::cell::{Byte, byte_from};
 use crate::literal::{is_quote, literal_part, prefixed_part};
@@ -11,7 +12,7 @@ use crate::scan::{block_end, line_end, number_end, word_end};
 use cr_base::{PpKind, is_digit, starts_name};
 
 /// What a part is. A comment is white space (C11 5.1.1.2, phase 3); an `OpenComment` is `/*` without an end.
-#[derive(Clone, Copy, Debug, PartialEq, Eq)]
+#[derive(Clone, Copy)]
 pub enum Found {
     Space,
     LineEnd,

@@ -2,7 +2,8 @@
 ghost use Rattle.std.specs.Prelude.{◌≡◌, ◌≤◌, length, codes};
 ghost use Rattle.cr_lex.specs.Spellings as spellings;
 ghost use Rattle.cr_lex.specs.Scanning as scanning;
-ghost use Rattle.cr_lex.specs.Scanning.{rest, IsReachedAt, IsPart};
+ghost use Rattle.cr_lex.specs.Scanning.{IsReachedAt, IsPart};
+ghost use Rattle.cr_lex.specs.Joins.{rest};
 
 use crate::cell::byte_from;
 use crate::part::{Found, Part};

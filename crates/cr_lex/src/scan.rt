@@ -3,7 +3,8 @@ ghost use Rattle.std.specs.Prelude.{MatchOption, ◌≡◌, ◌<◌, ◌≤◌, 
 ghost use Rattle.cr_base.specs.Names as names;
 ghost use Rattle.cr_lex.specs.Spellings as spellings;
 ghost use Rattle.cr_lex.specs.Scanning as scanning;
-ghost use Rattle.cr_lex.specs.Scanning.{rest, IsReached, IsReachedAt, IsClosed};
+ghost use Rattle.cr_lex.specs.Scanning.{IsReached, IsReachedAt, IsClosed};
+ghost use Rattle.cr_lex.specs.Joins.{rest};
 
 use crate::cell::byte_from;
 use cr_base::is_word_byte;

@@ -1,7 +1,8 @@
 //! Places between the tokens of a file.
 ghost use Rattle.std.specs.Prelude.{◌≡◌, ◌≤◌, ◌<◌, ◌+◌, length, false, true};
 ghost use Rattle.cr_lex.specs.Lexing.{end_of};
-ghost use Rattle.cr_lex.specs.Scanning.{rest, own_cells, IsByte, AreMarks};
+ghost use Rattle.cr_lex.specs.Scanning.{own_cells, IsByte, AreMarks};
+ghost use Rattle.cr_lex.specs.Joins.{rest};
 ghost use Rattle.cr_lex.specs.Standing.{IsSpot, IsNext, left_at, given, before, found_gives};
 
 use crate::cell::{Byte, byte_from};

@@ -1,5 +1,5 @@
 use Rattle.std.proofs.Common.{length, ◌-◌, ◌≡◌, ◌≤◌}
-use Rattle.cr_lex.specs.Scanning.{rest}
+use Rattle.cr_lex.specs.Joins.{rest}
 use Rattle.cr_lex.proofs.cell.byte_from.Given as goal
 
 abbrev pub invariant-loop-at : goal.invariant-loop-at

@@ -1,5 +1,6 @@
 use Rattle.std.proofs.Common.{sym, subst, ◌+◌}
-use Rattle.cr_lex.specs.Scanning.{rest, cell_of, Unclosed}
+use Rattle.cr_lex.specs.Scanning.{cell_of, Unclosed}
+use Rattle.cr_lex.specs.Joins.{rest}
 use Rattle.cr_lex.proofs.Marks.{unclosed_here, rest_rises}
 use Rattle.cr_lex.proofs.literal.string_end.Goals as goal
 

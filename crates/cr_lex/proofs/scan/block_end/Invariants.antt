@@ -1,6 +1,6 @@
 use Rattle.std.proofs.Common.{length, ◌-◌, ◌≡◌, ◌≤◌, false}
 use Rattle.cr_lex.specs.Scanning as scanning
-use Rattle.cr_lex.specs.Scanning.{rest}
+use Rattle.cr_lex.specs.Joins.{rest}
 use Rattle.cr_lex.proofs.scan.block_end.Given as goal
 
 abbrev pub invariant-loop-next : goal.invariant-loop-next

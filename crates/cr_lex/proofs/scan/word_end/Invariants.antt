@@ -1,7 +1,7 @@
 use Rattle.std.proofs.Common.{length, ◌-◌, ◌≡◌, ◌≤◌}
 use Rattle.cr_base.specs.Names as names
 use Rattle.cr_lex.specs.Scanning as scanning
-use Rattle.cr_lex.specs.Scanning.{rest}
+use Rattle.cr_lex.specs.Joins.{rest}
 use Rattle.cr_lex.proofs.scan.word_end.Given as goal
 
 abbrev pub invariant-loop-next : goal.invariant-loop-next

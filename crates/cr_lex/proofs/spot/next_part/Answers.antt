@@ -1,6 +1,6 @@
 use Rattle.std.proofs.Common.{◌+◌, ◌∙◌, ap}
 use Rattle.cr_lex.specs.Lexing.{cut}
-use Rattle.cr_lex.specs.Scanning.{rest}
+use Rattle.cr_lex.specs.Joins.{rest}
 use Rattle.cr_lex.specs.Standing.{left_at, before}
 use Rattle.cr_lex.proofs.First.{found_next, own_ends, marks_behind}
 use Rattle.cr_lex.proofs.Found.{found_is_first}
