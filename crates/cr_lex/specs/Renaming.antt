@@ -13,21 +13,26 @@ use Rattle.cr_lex.specs.Joins.{rest}
 abbrev pub is_among : List ℕ → ℕ → Bool
 is_among offsets at = list_any (λ o. o == at) offsets
 
+-- `L`, `u` or `U`
+abbrev pub is_wide_prefix : List ℕ → Bool
+is_wide_prefix name = bytes_eq name (codes "L") || bytes_eq name (codes "u") || bytes_eq name (codes "U")
+
 -- a name with which a literal may begin, and a quote of such a literal (C11 6.4.4.4, 6.4.5)
 abbrev pub could_prefix : List ℕ → ℕ → Bool
-could_prefix name quote =
-    ((bytes_eq name (codes "L") || bytes_eq name (codes "u") || bytes_eq name (codes "U")) && (quote == 39 || quote == 34))
-    || (bytes_eq name (codes "u8") && quote == 34)
+could_prefix name quote = (is_wide_prefix name && (quote == 39 || quote == 34)) || (bytes_eq name (codes "u8") && quote == 34)
 
 -- the first of some cells is a quote that a name could prefix
 abbrev pub is_before_quote : List ℕ → List Cell → Bool
 is_before_quote name [] = false
 is_before_quote name (c ∷ cs) = could_prefix name c.byte
 
--- A new name can't be spelled in a token's place: a join is inside, or the next byte in no join is a quote that the
--- new name could prefix (own rule of this project).
+-- A new name can't be spelled in the place of a token that ends at an offset: a join is inside, or the next byte in
+-- no join is a quote that the new name could prefix (own rule of this project).
+abbrev pub is_unspellable : List ℕ → List ℕ → Bool → ℕ → Bool
+is_unspellable bytes new joined end = joined || is_before_quote new (rest bytes end)
+
 abbrev pub is_refused : List ℕ → List ℕ → Token → Bool
-is_refused bytes new t = t.joined || is_before_quote new (rest bytes t.end)
+is_refused bytes new t = is_unspellable bytes new t.joined t.end
 
 -- the token is an identifier spelled old, in whose place the new name can be spelled
 pub record IsRenamable (bytes old new : List ℕ) (t : Token) : Type 0 where

@@ -10,6 +10,7 @@ mod literal;
 mod part;
 mod punctuator;
 mod scan;
+mod spelling;
 mod spot;
 mod text;
 
@@ -17,6 +18,7 @@ pub use fault::{LexFault, LexStep, Lexed};
 pub use kind::token_kind;
 pub use laws::{renaming_keeps_lexing, tokens_stand_in_order};
 pub use lexer::{Lexer, lex};
+pub use spelling::is_unspellable;
 
 #[cfg(test)]
 mod tests;

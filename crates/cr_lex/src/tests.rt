@@ -1,6 +1,6 @@
 ghost use Rattle.cr_lex.specs.Lexers.{IsIn};
 
-use crate::{LexFault, LexStep, Lexer, lex, token_kind};
+use crate::{LexFault, LexStep, Lexer, is_unspellable, lex, token_kind};
 use cr_base::{Name, NameTable, OutOfMemory, PathNo, Place, PpKind, PpTok};
 use std::alloc::Global;
 use std::test::Fail;
@@ -294,5 +294,39 @@ fn a_lexer_gives_the_same_one_by_one(rt: HostRuntime) -> Result<(), Fail> {
     let fault = LexStep::Fault(LexFault::OpenComment(place(9)));
     assert!(rt; step(rt.alloc(), &mut lexer, &mut names, bytes)? == fault);
     assert!(rt; step(rt.alloc(), &mut lexer, &mut names, bytes)? == fault);
+    Ok(())
+}
+
+fn first_is_unspellable(alloc: Global, bytes: &[u8], new: &[u8]) -> Result<bool, OutOfMemory> {
+    if bytes.len() > 100 {
+        return Err(OutOfMemory);
+    }
+    let mut names = NameTable::new(alloc);
+    let lexed = lex(alloc, &mut names, bytes, FILE)?;
+    match lexed.tokens.items() {
+        [first, ..] if (first.end as usize) <= bytes.len() => Ok(is_unspellable(
+            bytes, new, *first,
+        )),
+        _ => Err(OutOfMemory),
+    }
+}
+
+#[test]
+fn a_prefix_before_a_quote_and_a_joined_token_are_unspellable(rt: HostRuntime) -> Result<(), Fail> {
+    let rows: [(&[u8], &[u8], bool); 7] = [
+        (b"x\\\n\"a\"", b"L", true),
+        (b"x'a'", b"U", true),
+        (b"x\\\r\\\n'a'", b"u", false),
+        (b"x\"a\"", b"u8", true),
+        (b"x'a'", b"u8", false),
+        (b"x \"a\"", b"L", false),
+        (b"fo\\\no", b"bar", true),
+    ];
+    for (bytes, new, answer) in rows {
+        assert!(rt;
+            first_is_unspellable(rt.alloc(), bytes, new)? == answer,
+            "{bytes:?}"
+        );
+    }
     Ok(())
 }
