@@ -1,267 +1,204 @@
 ghost use Rattle.cr_lex.specs.Lexers.{IsIn};
 
-use crate::{LexFault, LexStep, Lexer, is_unspellable, lex, token_kind};
-use cr_base::{Name, NameTable, OutOfMemory, PathNo, Place, PpKind, PpTok};
+use crate::{LexFault, LexStep, Lexed, Lexer, is_unspellable, lex, token_kind};
+use cr_base::{NameTable, OutOfMemory, PathNo, Place, PpKind, PpTok};
 use std::alloc::Global;
 use std::test::Fail;
 
 const FILE: PathNo = PathNo(7);
 
-fn place(offset: u32) -> Place {
-    Place { path: FILE, offset }
+fn kind_letter(kind: PpKind) -> u8 {
+    match kind {
+        PpKind::Ident => b'I',
+        PpKind::Number => b'N',
+        PpKind::Char => b'C',
+        PpKind::Str => b'S',
+        PpKind::Punct => b'P',
+        PpKind::Stray => b'X',
+    }
 }
 
-fn is_spelled(names: &NameTable, name: Name, text: &[u8]) -> bool {
-    (name.0 as usize) < names.len() && names.text(name) == text
+fn push_number(shown: &mut Vec<u8>, number: u32) -> Result<(), OutOfMemory> {
+    if number >= 10 {
+        shown.push(b'0' + (number / 10 % 10) as u8)?;
+    }
+    shown.push(b'0' + (number % 10) as u8)?;
+    Ok(())
 }
 
-// A token's offset, its kind and its text.
-type Shown<'a> = (u32, PpKind, &'a [u8]);
-
-fn are_shown(names: &NameTable, tokens: &[PpTok], shown: &[Shown]) -> bool {
-    tokens.len() == shown.len()
-        && tokens.iter().zip(shown).all(|(t, (offset, kind, text))| t.site == place(*offset)
-            && t.kind == *kind
-            && is_spelled(names, t.text, text))
+fn push_token(shown: &mut Vec<u8>, names: &NameTable, t: &PpTok) -> Result<(), OutOfMemory> {
+    push_number(shown, t.site.offset)?;
+    shown.push(kind_letter(t.kind))?;
+    if (t.text.0 as usize) < names.len() {
+        shown.extend_from_slice(names.text(t.text))?;
+    }
+    shown.push(b'|')?;
+    Ok(())
 }
 
-fn lexes_to(
-    alloc: Global,
-    bytes: &[u8],
-    shown: &[Shown],
-    fault: Option<LexFault>,
-) -> Result<bool, OutOfMemory> {
-    if bytes.len() > 1000 {
+fn push_fault(shown: &mut Vec<u8>, fault: LexFault) -> Result<(), OutOfMemory> {
+    let (place, letter) = match fault {
+        LexFault::OpenComment(place) => (place, b'o'),
+        LexFault::Trigraph(place) => (place, b't'),
+    };
+    push_number(shown, place.offset)?;
+    shown.push(letter)?;
+    shown.push(b'|')?;
+    Ok(())
+}
+
+fn lexed(alloc: Global, names: &mut NameTable, bytes: &[u8]) -> Result<Lexed, OutOfMemory> {
+    if bytes.len() > 1000 || names.len() > 1000 {
         return Err(OutOfMemory);
     }
+    lex(alloc, names, bytes, FILE)
+}
+
+// Each token as its offset, a letter for its kind, its text and a bar; and behind them the fault as its
+// offset, `o` or `t`, and a bar.
+fn lexes_to(alloc: Global, bytes: &[u8], tokens: &[u8]) -> Result<bool, OutOfMemory> {
     let mut names = NameTable::new(alloc);
-    let lexed = lex(alloc, &mut names, bytes, FILE)?;
-    Ok(lexed.fault == fault && are_shown(&names, lexed.tokens.items(), shown))
+    let lexed = lexed(alloc, &mut names, bytes)?;
+    let mut shown = Vec::new(alloc);
+    for token in lexed.tokens.items() {
+        push_token(&mut shown, &names, token)?;
+    }
+    if let Some(fault) = lexed.fault {
+        push_fault(&mut shown, fault)?;
+    }
+    Ok(shown.as_slice() == tokens)
 }
 
 #[test]
-fn each_token_is_the_longest_one(rt: HostRuntime) -> Result<(), Fail> {
-    let rows: [(&[u8], &[Shown]); 14] = [
-        (
-            b"a+++b",
-            &[
-                (0, PpKind::Ident, b"a"),
-                (1, PpKind::Punct, b"++"),
-                (3, PpKind::Punct, b"+"),
-                (4, PpKind::Ident, b"b"),
-            ],
-        ),
-        (b"0x1e+2", &[(0, PpKind::Number, b"0x1e+2")]),
-        (
-            b"u8'a'",
-            &[(0, PpKind::Ident, b"u8"), (2, PpKind::Char, b"'a'")],
-        ),
-        (
-            b"fo\\\no.",
-            &[(0, PpKind::Ident, b"foo"), (5, PpKind::Punct, b".")],
-        ),
-        (
-            b"\"ab",
-            &[(0, PpKind::Stray, b"\""), (1, PpKind::Ident, b"ab")],
-        ),
-        (b".5.", &[(0, PpKind::Number, b".5.")]),
-        (
-            b"..%:%:",
-            &[
-                (0, PpKind::Punct, b"."),
-                (1, PpKind::Punct, b"."),
-                (2, PpKind::Punct, b"%:%:"),
-            ],
-        ),
-        (
-            b"'' '",
-            &[(0, PpKind::Stray, b"'"), (1, PpKind::Char, b"' '")],
-        ),
-        (
-            b"\"\\\"\" '\\",
-            &[
-                (0, PpKind::Str, b"\"\\\"\""),
-                (5, PpKind::Stray, b"'"),
-                (6, PpKind::Stray, b"\\"),
-            ],
-        ),
-        (
-            b"\"\\\"\\\"x",
-            &[
-                (0, PpKind::Stray, b"\""),
-                (1, PpKind::Stray, b"\\"),
-                (2, PpKind::Stray, b"\""),
-                (3, PpKind::Stray, b"\\"),
-                (4, PpKind::Stray, b"\""),
-                (5, PpKind::Ident, b"x"),
-            ],
-        ),
-        (
-            b"a//b\\\nc\nd/*\n*/e",
-            &[
-                (0, PpKind::Ident, b"a"),
-                (8, PpKind::Ident, b"d"),
-                (14, PpKind::Ident, b"e"),
-            ],
-        ),
-        (
-            b"\"/*\"/\\\r\n**/x",
-            &[(0, PpKind::Str, b"\"/*\""), (11, PpKind::Ident, b"x")],
-        ),
-        (
-            b"int fo\\\r\no;",
-            &[
-                (0, PpKind::Ident, b"int"),
-                (4, PpKind::Ident, b"foo"),
-                (10, PpKind::Punct, b";"),
-            ],
-        ),
-        (
-            b"@\x80\t\x0b\x0c\r$",
-            &[
-                (0, PpKind::Stray, b"@"),
-                (1, PpKind::Stray, b"\x80"),
-                (6, PpKind::Stray, b"$"),
-            ],
-        ),
+fn tokens_are_the_longest_ones_up_to_a_fault(rt: HostRuntime) -> Result<(), Fail> {
+    let rows: [(&[u8], &[u8]); 21] = [
+        (b"a+++b", b"0Ia|1P++|3P+|4Ib|"),
+        (b"0x1e+2", b"0N0x1e+2|"),
+        (b"u8'a'", b"0Iu8|2C'a'|"),
+        (b"fo\\\no.", b"0Ifoo|5P.|"),
+        (b"\"ab", b"0X\"|1Iab|"),
+        (b".5.", b"0N.5.|"),
+        (b"..%:%:", b"0P.|1P.|2P%:%:|"),
+        (b"'' '", b"0X'|1C' '|"),
+        (b"\"\\\"\" '\\", b"0S\"\\\"\"|5X'|6X\\|"),
+        (b"\"\\\"\\\"x", b"0X\"|1X\\|2X\"|3X\\|4X\"|5Ix|"),
+        (b"a//b\\\nc\nd/*\n*/e", b"0Ia|8Id|14Ie|"),
+        (b"\"/*\"/\\\r\n**/x", b"0S\"/*\"|11Ix|"),
+        (b"int fo\\\r\no;", b"0Iint|4Ifoo|10P;|"),
+        (b"@\x80\t\x0b\x0c\r$", b"0X@|1X\x80|6X$|"),
+        (b"a /* x", b"0Ia|2o|"),
+        (b"/*/", b"0o|"),
+        (b"a??=b", b"0Ia|1t|"),
+        (b"???-", b"0P?|1t|"),
+        (b"\"a??/b\"", b"2t|"),
+        (b"\"??=", b"0X\"|1t|"),
+        (b"?\\\n?= /*??=*/", b"0P?|3P?|4P=|"),
     ];
-    for (bytes, shown) in &rows {
-        assert!(rt; lexes_to(rt.alloc(), bytes, shown, None)?, "{bytes:?}");
+    for (bytes, tokens) in rows {
+        assert!(rt; lexes_to(rt.alloc(), bytes, tokens)?, "{bytes:?}");
     }
+    Ok(())
+}
+
+fn each_third_byte_makes_a_trigraph(alloc: Global) -> Result<bool, OutOfMemory> {
+    for third in b"=(/)'<!>-" {
+        if !lexes_to(alloc, &[b'?', b'?', *third], b"0t|")? {
+            return Ok(false);
+        }
+    }
+    Ok(true)
+}
+
+#[test]
+fn each_trigraph_is_a_fault(rt: HostRuntime) -> Result<(), Fail> {
+    assert!(rt; each_third_byte_makes_a_trigraph(rt.alloc())?);
     Ok(())
 }
 
 const PUNCTUATORS: &[u8] =
     b"[ ] ( ) { } . -> ++ -- & * + - ~ ! / % << >> < > <= >= == != ^ | && || ? : ; ... = *= /= %= += -= <<= >>= &= ^= |= , # ## <: :> <% %> %: %:%:";
 
-const LITERALS: &[u8] =
-    b"'a' L'a' u'a' U'a' '\\'' \"\" \"a\" L\"a\" u\"a\" U\"a\" u8\"a\" \"\\\\\"";
+const CHARACTERS: &[u8] = b"'a' L'a' u'a' U'a' '\\''";
 
-fn is_whole(alloc: Global, text: &[u8], kind: PpKind) -> Result<bool, OutOfMemory> {
-    Ok(token_kind(text) == Some(kind) && lexes_to(alloc, text, &[(0, kind, text)], None)?)
-}
+const STRINGS: &[u8] = b"\"\" \"a\" L\"a\" u\"a\" U\"a\" u8\"a\" \"\\\\\"";
 
-fn literal_kind(text: &[u8]) -> PpKind {
-    if text.contains(&b'\'') {
-        PpKind::Char
-    } else {
-        PpKind::Str
+fn are_whole(alloc: Global, texts: &[u8], kind: PpKind) -> Result<bool, OutOfMemory> {
+    for text in texts.split(|b| *b == b' ') {
+        let mut shown = b"0".to_vec(alloc)?;
+        shown.push(kind_letter(kind))?;
+        shown.extend_from_slice(text)?;
+        shown.push(b'|')?;
+        if token_kind(text) != Some(kind) || !lexes_to(alloc, text, &shown)? {
+            return Ok(false);
+        }
     }
+    Ok(true)
 }
 
 #[test]
 fn punctuators_digraphs_and_prefixed_literals_are_whole(rt: HostRuntime) -> Result<(), Fail> {
-    for text in PUNCTUATORS.split(|b| *b == b' ') {
-        assert!(rt; is_whole(rt.alloc(), text, PpKind::Punct)?, "{text:?}");
-    }
-    for text in LITERALS.split(|b| *b == b' ') {
-        assert!(rt; is_whole(rt.alloc(), text, literal_kind(text))?, "{text:?}");
-    }
+    assert!(rt; are_whole(rt.alloc(), PUNCTUATORS, PpKind::Punct)?);
+    assert!(rt; are_whole(rt.alloc(), CHARACTERS, PpKind::Char)?);
+    assert!(rt; are_whole(rt.alloc(), STRINGS, PpKind::Str)?);
     Ok(())
+}
+
+fn is_no_token(text: &[u8]) -> bool {
+    token_kind(text).is_none()
 }
 
 #[test]
 fn a_text_is_exactly_one_token_or_none(rt: HostRuntime) {
-    let rows: [(&[u8], Option<PpKind>); 10] = [
-        (b"->", Some(PpKind::Punct)),
-        (b"x1_", Some(PpKind::Ident)),
-        (b"1x.e+", Some(PpKind::Number)),
-        (b"+/", None),
-        (b"//", None),
-        (b"/*", None),
-        (b"", None),
-        (b"\"", None),
-        (b"u8'a'", None),
-        (b"a\\\nb", None),
-    ];
-    for (text, kind) in rows {
-        assert!(rt; token_kind(text) == kind, "{text:?}");
+    assert!(rt; token_kind(b"x1_") == Some(PpKind::Ident));
+    assert!(rt; token_kind(b"1x.e+") == Some(PpKind::Number));
+    let rows: [&[u8]; 7] = [b"+/", b"//", b"/*", b"", b"\"", b"u8'a'", b"a\\\nb"];
+    for text in rows {
+        assert!(rt; is_no_token(text), "{text:?}");
     }
 }
 
-#[test]
-fn faults_end_the_tokens(rt: HostRuntime) -> Result<(), Fail> {
-    let rows: [(&[u8], &[Shown], LexFault); 7] = [
-        (
-            b"a /* x",
-            &[(0, PpKind::Ident, b"a")],
-            LexFault::OpenComment(place(2)),
-        ),
-        (b"/*/", &[], LexFault::OpenComment(place(0))),
-        (b"??=", &[], LexFault::Trigraph(place(0))),
-        (
-            b"a??=b",
-            &[(0, PpKind::Ident, b"a")],
-            LexFault::Trigraph(place(1)),
-        ),
-        (
-            b"???-",
-            &[(0, PpKind::Punct, b"?")],
-            LexFault::Trigraph(place(1)),
-        ),
-        (b"\"a??/b\"", &[], LexFault::Trigraph(place(2))),
-        (
-            b"\"??=",
-            &[(0, PpKind::Stray, b"\"")],
-            LexFault::Trigraph(place(1)),
-        ),
-    ];
-    for (bytes, shown, fault) in rows {
-        assert!(rt;
-            lexes_to(rt.alloc(), bytes, shown, Some(fault))?,
-            "{bytes:?}"
-        );
-    }
-    for third in b"=(/)'<!>-" {
-        let bytes = [b'?', b'?', *third];
-        assert!(rt; lexes_to(rt.alloc(), &bytes, &[], Some(LexFault::Trigraph(place(0))))?);
+fn push_flag(shown: &mut Vec<u8>, flag: bool, letter: u8) -> Result<(), OutOfMemory> {
+    if flag {
+        shown.push(letter)?;
     }
     Ok(())
 }
 
-// Offset, end, line, and whether `space`, `first` and `joined`.
-type Flags = (u32, u32, u32, bool, bool, bool);
-
-fn has_flags(t: &PpTok, flags: Flags) -> bool {
-    (t.site.offset, t.end, t.line, t.space, t.first, t.joined) == flags
+fn push_flags(shown: &mut Vec<u8>, t: &PpTok) -> Result<(), OutOfMemory> {
+    push_number(shown, t.site.offset)?;
+    shown.push(b'-')?;
+    push_number(shown, t.end)?;
+    shown.push(b'@')?;
+    push_number(shown, t.line)?;
+    push_flag(shown, t.space, b's')?;
+    push_flag(shown, t.first, b'f')?;
+    push_flag(shown, t.joined, b'j')?;
+    shown.push(b'|')?;
+    Ok(())
 }
 
-fn all_have_flags(tokens: &[PpTok], flags: &[Flags]) -> bool {
-    tokens.len() == flags.len() && tokens.iter().zip(flags).all(|(t, f)| has_flags(t, *f))
+// Each token as its offset, a dash, its end, an at sign, its line, letters for `space`, `first` and
+// `joined`, and a bar.
+fn has_flags(alloc: Global, bytes: &[u8], flags: &[u8]) -> Result<bool, OutOfMemory> {
+    let mut names = NameTable::new(alloc);
+    let lexed = lexed(alloc, &mut names, bytes)?;
+    let mut shown = Vec::new(alloc);
+    for token in lexed.tokens.items() {
+        push_flags(&mut shown, token)?;
+    }
+    Ok(shown.as_slice() == flags)
 }
 
 #[test]
 fn joins_lines_and_white_space_are_told(rt: HostRuntime) -> Result<(), Fail> {
-    let rows: [(&[u8], &[Flags]); 4] = [
-        (
-            b"fo\\\no.",
-            &[(0, 5, 1, true, true, true), (5, 6, 2, false, false, false)],
-        ),
-        (
-            b"int \\\nfo\\\no\\\n;",
-            &[
-                (0, 3, 1, true, true, false),
-                (6, 11, 2, true, false, true),
-                (13, 14, 4, false, false, false),
-            ],
-        ),
-        (
-            b"/* \n */x\n\ty",
-            &[(7, 8, 2, true, true, false), (10, 11, 3, true, true, false)],
-        ),
-        (
-            b"a/**/b\\\r\n+",
-            &[
-                (0, 1, 1, true, true, false),
-                (5, 6, 1, true, false, false),
-                (9, 10, 2, false, false, false),
-            ],
-        ),
+    let rows: [(&[u8], &[u8]); 4] = [
+        (b"fo\\\no.", b"0-5@1sfj|5-6@2|"),
+        (b"int \\\nfo\\\no\\\n;", b"0-3@1sf|6-11@2sj|13-14@4|"),
+        (b"/* \n */x\n\ty", b"7-8@2sf|10-11@3sf|"),
+        (b"a/**/b\\\r\n+", b"0-1@1sf|5-6@1s|9-10@2|"),
     ];
-    for (bytes, flags) in &rows {
-        let mut names = NameTable::new(rt.alloc());
-        let lexed = lex(rt.alloc(), &mut names, bytes, FILE)?;
-        assert!(rt; all_have_flags(lexed.tokens.items(), flags), "{bytes:?}");
+    for (bytes, flags) in rows {
+        assert!(rt; has_flags(rt.alloc(), bytes, flags)?, "{bytes:?}");
     }
     Ok(())
 }
@@ -285,28 +222,29 @@ fn step(
 fn a_lexer_gives_the_same_one_by_one(rt: HostRuntime) -> Result<(), Fail> {
     let bytes = b"a /**/ b /*".as_slice();
     let mut names = NameTable::new(rt.alloc());
-    let lexed = lex(rt.alloc(), &mut names, bytes, FILE)?;
+    let lexed = lexed(rt.alloc(), &mut names, bytes)?;
     let tokens = lexed.tokens.items();
     assert_eq!(rt; tokens.len(), 2);
     let mut lexer = Lexer::new(FILE);
     assert!(rt; step(rt.alloc(), &mut lexer, &mut names, bytes)? == LexStep::Token(tokens[0]));
     assert!(rt; step(rt.alloc(), &mut lexer, &mut names, bytes)? == LexStep::Token(tokens[1]));
-    let fault = LexStep::Fault(LexFault::OpenComment(place(9)));
+    let place = Place {
+        path: FILE,
+        offset: 9,
+    };
+    let fault = LexStep::Fault(LexFault::OpenComment(place));
     assert!(rt; step(rt.alloc(), &mut lexer, &mut names, bytes)? == fault);
     assert!(rt; step(rt.alloc(), &mut lexer, &mut names, bytes)? == fault);
     Ok(())
 }
 
 fn first_is_unspellable(alloc: Global, bytes: &[u8], new: &[u8]) -> Result<bool, OutOfMemory> {
-    if bytes.len() > 100 {
-        return Err(OutOfMemory);
-    }
     let mut names = NameTable::new(alloc);
-    let lexed = lex(alloc, &mut names, bytes, FILE)?;
+    let lexed = lexed(alloc, &mut names, bytes)?;
     match lexed.tokens.items() {
-        [first, ..] if (first.end as usize) <= bytes.len() => Ok(is_unspellable(
-            bytes, new, *first,
-        )),
+        [first, ..] if (first.end as usize) <= bytes.len() => {
+            Ok(is_unspellable(bytes, new, *first))
+        }
         _ => Err(OutOfMemory),
     }
 }
