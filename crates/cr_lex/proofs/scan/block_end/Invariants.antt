@@ -1,0 +1,14 @@
+use Rattle.std.proofs.Common.{length, ◌-◌, ◌≡◌, ◌≤◌, false}
+use Rattle.cr_lex.specs.Scanning as scanning
+use Rattle.cr_lex.specs.Joins.{rest}
+use Rattle.cr_lex.proofs.scan.block_end.Given as goal
+
+abbrev pub invariant-loop-next : goal.invariant-loop-next
+invariant-loop-next l = record {
+  within : l.at ≤ length l.bytes;
+  from : l.from ≤ l.at;
+  same : scanning.block_end false (rest l.bytes l.from) ≡ scanning.block_end l.star (rest l.bytes l.at);
+}
+
+abbrev pub decreases-loop-next : goal.decreases-loop-next
+decreases-loop-next l = length l.bytes - l.at
