@@ -8,3 +8,4 @@ pub mod Numbers
 pub mod Bodies
 pub mod Telling
 pub mod Kept
+pub mod StringLaws

@@ -6,6 +6,7 @@ ghost use Rattle.cr_expand.specs.Laws.{FollowsTheRules};
 mod definition;
 mod fault;
 mod held;
+mod fill;
 mod hide_sets;
 mod items;
 mod macro_table;
@@ -15,6 +16,7 @@ mod one_token;
 mod params;
 mod parts;
 mod spelling;
+mod strings;
 mod words;
 
 pub use cr_base::Role;
