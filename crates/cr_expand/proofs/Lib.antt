@@ -9,3 +9,4 @@ pub mod Bodies
 pub mod Telling
 pub mod Kept
 pub mod StringLaws
+pub mod Fills

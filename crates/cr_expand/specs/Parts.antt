@@ -69,3 +69,26 @@ IsItemNamed names (item.Bare t i) = IsTokenNamed names t
 IsItemNamed names (item.Full t i) = IsTokenNamed names t
 IsItemNamed names (item.CommaRest comma t i) = IsTokenNamed names comma × IsTokenNamed names t
 IsItemNamed names item.Paste = Unit {0}
+
+-- The string of an item that is one was made; for another item nothing was done.
+abbrev pub IsMade : Watch → List Seen → List Seen → List Text → List Text → Sets → Token → List (List Held) → Held → Item → Type 0
+IsMade w before now names new sets name raw made (item.Spelt hash i) =
+    Does w before now (spec.string_of name (token_of names [] hash) (all_held names sets (arg_here raw i))) (held new sets made) × IsKnown new sets made
+IsMade w before now names new sets name raw made (item.Stays t) = (new ≡ names) × (now ≡ before)
+IsMade w before now names new sets name raw made (item.Bare t i) = (new ≡ names) × (now ≡ before)
+IsMade w before now names new sets name raw made (item.Full t i) = (new ≡ names) × (now ≡ before)
+IsMade w before now names new sets name raw made (item.CommaRest comma t i) = (new ≡ names) × (now ≡ before)
+IsMade w before now names new sets name raw made item.Paste = (new ≡ names) × (now ≡ before)
+
+-- what an item gives, as a part of a body
+abbrev pub filled_text : List Text → Sets → Token → List (List Held) → List (List Held) → Item → Work (List spec.Part)
+filled_text names sets name raw full i = spec.filled name (all_args names sets raw) (all_args names sets full) (item_text names i)
+
+-- what items give, one after another
+abbrev pub all_filled_text : List Text → Sets → Token → List (List Held) → List (List Held) → List Item → Work (List spec.Part)
+all_filled_text names sets name raw full is1 = spec.all_filled name (all_args names sets raw) (all_args names sets full) (item_texts names is1)
+
+-- What the work gives is put behind the parts.
+abbrev pub Adds : Watch → List Seen → List Seen → Work (List spec.Part) → List Text → Sets → List Part → List Part → Type 0
+Adds w before now m new sets old parts =
+    (added : List Part) × (parts ≡ old ++ added) × Does w before now m (part_texts new sets added) × All (IsPartKnown new sets) added

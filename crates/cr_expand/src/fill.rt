@@ -6,8 +6,9 @@ ghost use Rattle.cr_expand.specs.Substitution as spec;
 ghost use Rattle.cr_expand.specs.Tokens.{Text, token_of};
 ghost use Rattle.cr_expand.specs.HideSets.{Grows, set_at};
 ghost use Rattle.cr_expand.specs.Held.{held, all_args, IsKnown, AreKnown, IsNamed, AreTables, watch_of, Does, Stops};
+ghost use Rattle.cr_expand.specs.declared.held.Held.{Held as TheHeld};
 ghost use Rattle.cr_expand.specs.Items.{item_text, item_texts};
-ghost use Rattle.cr_expand.specs.Parts.{part_text, part_texts, IsPartKnown, IsItemNamed, filled_here};
+ghost use Rattle.cr_expand.specs.Parts.{part_text, part_texts, IsPartKnown, IsItemNamed, filled_here, IsMade, Adds, filled_text, all_filled_text};
 
 use crate::fault::ExpandFault;
 use crate::held::Held;
@@ -29,6 +30,14 @@ fn made_for(
     raw: &[Vec<Held>],
     item: Item,
 ) -> Result<Held, ExpandFault>
+    requires room { length names.old < 2 ^ 32 - 1 }
+    requires distinct { IsDistinct names.old }
+    ensures made { (hide : List Text) → IfOk result (λ h. IsMade (watch_of names.old notes.old) notes.old.seen.items notes.new.seen.items names.old names.new sets.now (token_of names.old hide name) (map (λ v. v.items) raw.now) h item) }
+    ensures stops { (hide : List Text) (full : List (List TheHeld)) → IfErr result (λ e. Stops (filled_text names.old sets.now (token_of names.old hide name) (map (λ v. v.items) raw.now) full item) e) }
+    ensures grows { Grows names.old names.new }
+    ensures length { length names.new ≤ length names.old + 1 }
+    ensures distinct { IsDistinct names.new }
+    ensures same { (notes.new.from ≡ notes.old.from) × (notes.new.to ≡ notes.old.to) }
 {
     match item {
         Item::Spelt(hash, n) => {
@@ -37,4 +46,33 @@ fn made_for(
         }
         _ => Ok(unhidden(name)),
     }
+}
+
+// Puts what an item gives behind the parts.
+fn fill_one(
+    alloc: Global,
+    names: &mut NameTable,
+    sets: &HideSets,
+    notes: &mut Notes,
+    name: PpTok,
+    raw: &[Vec<Held>],
+    full: &[Vec<Held>],
+    item: Item,
+    parts: &mut Vec<Part>,
+) -> Result<(), ExpandFault>
+    requires room { length names.old < 2 ^ 32 - 1 }
+    requires tables { AreTables names.old sets.now }
+    requires named { IsItemNamed names.old item }
+    requires raw { All (AreKnown names.old sets.now) (map (λ v. v.items) raw.now) }
+    requires full { All (AreKnown names.old sets.now) (map (λ v. v.items) full.now) }
+    ensures adds { (hide : List Text) → OnOk result (Adds (watch_of names.old notes.old) notes.old.seen.items notes.new.seen.items (filled_text names.old sets.now (token_of names.old hide name) (map (λ v. v.items) raw.now) (map (λ v. v.items) full.now) item) names.new sets.now parts.old.items parts.new.items) }
+    ensures stops { (hide : List Text) → IfErr result (λ e. Stops (filled_text names.old sets.now (token_of names.old hide name) (map (λ v. v.items) raw.now) (map (λ v. v.items) full.now) item) e) }
+    ensures grows { Grows names.old names.new }
+    ensures length { length names.new ≤ length names.old + 1 }
+    ensures distinct { IsDistinct names.new }
+    ensures same { (notes.new.from ≡ notes.old.from) × (notes.new.to ≡ notes.old.to) }
+{
+    let made = made_for(alloc, names, sets, notes, name, raw, item)?;
+    put_item(parts, raw, full, made, item)?;
+    Ok(())
 }
