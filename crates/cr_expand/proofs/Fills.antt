@@ -2,7 +2,7 @@
 use Rattle.std.proofs.Common.{◌≡◌, ℕ, zero, suc, ◌+◌, ◌<◌, drop, get_or, Bool, List, [], ◌∷◌, ◌++◌, length, map, refl, sym, ap, ◌∙◌, subst, arith}
 use Rattle.std.specs.Prelude.{slice_index_or}
 use Rattle.std.specs.List.{All}
-use Rattle.std.proofs.lemmas.List.Elements.{All-head, All-tail, All-cons, All-nil, All-get_or, All-weaker}
+use Rattle.std.proofs.lemmas.List.Elements.{All-head, All-tail, All-cons, All-nil, All-get_or, All-weaker, All-append}
 use Rattle.cr_base.specs.declared.token.PpTok.{PpTok}
 use Rattle.cr_expand.specs.declared.macros.Seen.{Seen}
 use Rattle.cr_expand.specs.declared.held.Held.{Held}
@@ -15,12 +15,15 @@ use Rattle.cr_expand.specs.Tokens.{Text, Token, token_of, give, Work, ◌>>=◌}
 use Rattle.cr_expand.specs.Substitution as spec
 use Rattle.cr_expand.specs.HideSets.{Sets, set_at, Grows}
 use Rattle.cr_expand.specs.Definition.{text_of}
-use Rattle.cr_expand.specs.Held.{held, all_held, all_args, hidden, Watch, Does, Stops, IsKnown, AreKnown, IsNamed}
+use Rattle.cr_expand.specs.Held.{held, all_held, all_args, hidden, Watch, Does, Stops, IsKnown, AreKnown, IsNamed, AreTables}
 use Rattle.cr_expand.specs.Items.{item_text, IsTokenNamed}
-use Rattle.cr_expand.specs.Parts.{part_text, part_texts, IsPartKnown, arg_here, spaced, parts_here, or_placemarker_here, comma_and_here, unhidden, filled_here, IsMade, IsItemNamed, filled_text, all_filled_text}
+use Rattle.cr_expand.specs.Parts.{part_text, part_texts, IsPartKnown, arg_here, spaced, parts_here, or_placemarker_here, comma_and_here, unhidden, filled_here, IsMade, IsItemNamed, filled_text, all_filled_text, Adds, IsFilling}
 use Rattle.cr_expand.proofs.Telling.{does_then, does_give, stops_first, stops_then}
-use Rattle.cr_expand.proofs.Kept.{token_kept, all_args_kept, held_kept, known_later}
-use Rattle.cr_expand.proofs.Sets.{grows_same}
+use Rattle.cr_expand.proofs.Kept.{token_kept, all_args_kept, held_kept, known_later, sets_named_later}
+use Rattle.cr_base.specs.NameTable.{IsDistinct}
+use Rattle.std.proofs.lemmas.List.{map-append}
+use Rattle.std.proofs.Common.{append_assoc, append-nil}
+use Rattle.cr_expand.proofs.Sets.{grows_same, grows_then}
 use Rattle.cr_expand.proofs.Bodies.{cut_at}
 
 pub arg_text : (names : List Text) (sets : Sets) (args : List (List Held)) (i : ℕ) → spec.arg_at (all_args names sets args) i ≡ all_held names sets (arg_here args i)
@@ -181,3 +184,53 @@ fill_stops_later w s1 s2 names sets name raw full is1 i d ps e l h k =
     subst (λ x. Stops (all_filled_text names sets name raw full x) e) (sym (cut_at is1 i d l))
     (stops_then w s1 s2 (filled_text names sets name raw full (get_or is1 i d)) (λ qs. all_filled_text names sets name raw full (drop (i + 1) is1) >>= λ more. give (qs ++ more)) ps e h
       (stops_first (all_filled_text names sets name raw full (drop (i + 1) is1)) (λ more. give (ps ++ more)) e k))
+
+pub filling_starts : (w : Watch) (s : List Seen) (names : List Text) (sets : Sets) (name : PpTok) (raw full : List (List Held)) (is1 : List Item) → IsDistinct names → IsFilling w s s names names sets name raw full is1 is1 []
+filling_starts w s names sets name raw full is1 d = record {
+  grows = grows_same names;
+  distinct = d;
+  known = All-nil (IsPartKnown names sets);
+  does = λ hide s1 rest h. h;
+  stops = λ hide e h. h;
+}
+
+-- one more item is filled in
+pub filling_goes_on : (w w1 : Watch) (s0 s1 s2 : List Seen) (names n1 n2 : List Text) (sets : Sets) (name : PpTok) (raw full : List (List Held)) (is1 : List Item) (i : ℕ) (d : Item) (ps qs : List Part)
+    → AreTables names sets → IsTokenNamed names name → All (IsItemNamed names) is1 → All (AreKnown names sets) raw → All (AreKnown names sets) full → w1 ≡ w → i < length is1 → Grows n1 n2 → IsDistinct n2
+    → IsFilling w s0 s1 names n1 sets name raw full is1 (drop i is1) ps
+    → ((hide : List Text) → Adds w1 s1 s2 (filled_text n1 sets (token_of n1 hide name) raw full (get_or is1 i d)) n2 sets ps qs)
+    → IsFilling w s0 s2 names n2 sets name raw full is1 (drop (i + 1) is1) qs
+filling_goes_on w w1 s0 s1 s2 names n1 n2 sets name raw full is1 i d ps qs t k named a b e l g dis f adds =
+    let one = adds [] in
+    let n1_named : All (All (IsNamed n1)) sets = sets_named_later names n1 sets f.grows t.named in
+    let item_named : IsItemNamed names (get_or is1 i d) = All-get_or (IsItemNamed names) is1 i d l named in
+    let does_one : (hide : List Text) → Does w s1 s2 (filled_text names sets (token_of names hide name) raw full (get_or is1 i d)) (part_texts n2 sets (adds hide).0) =
+        λ hide. subst (λ x. Does x s1 s2 (filled_text names sets (token_of names hide name) raw full (get_or is1 i d)) (part_texts n2 sets (adds hide).0)) e
+          (subst (λ m. Does w1 s1 s2 m (part_texts n2 sets (adds hide).0)) (filled_kept names n1 sets hide name raw full (get_or is1 i d) f.grows t.named a b item_named k) (adds hide).2) in
+    record {
+      grows = grows_then names n1 n2 f.grows g;
+      distinct = dis;
+      known = subst (All (IsPartKnown n2 sets)) (sym one.1) (All-append (IsPartKnown n2 sets) ps one.0 (parts_later n1 n2 sets sets ps g (grows_same sets) f.known) one.3);
+      does = λ hide s rest h.
+        subst (λ x. Does w s0 s (all_filled_text names sets (token_of names hide name) raw full is1) x)
+        (ap (λ x. x ++ (part_texts n2 sets (adds hide).0 ++ rest)) (sym (parts_kept n1 n2 sets sets ps g (grows_same sets) n1_named f.known))
+          ∙ sym (append_assoc (part_texts n2 sets ps) (part_texts n2 sets (adds hide).0) rest)
+          ∙ ap (λ x. x ++ rest) (sym (map-append (part_text n2 sets) ps (adds hide).0))
+          ∙ ap (λ x. part_texts n2 sets x ++ rest) (sym (adds hide).1))
+        (f.does hide s (part_texts n2 sets (adds hide).0 ++ rest) (fill_goes_on w s1 s2 s names sets (token_of names hide name) raw full is1 i d (part_texts n2 sets (adds hide).0) rest l (does_one hide) h));
+      stops = λ hide e1 h. f.stops hide e1 (fill_stops_later w s1 s2 names sets (token_of names hide name) raw full is1 i d (part_texts n2 sets (adds hide).0) e1 l (does_one hide) h);
+    }
+
+pub filling_stops : (w : Watch) (s0 s1 : List Seen) (names n1 : List Text) (sets : Sets) (hide : List Text) (name : PpTok) (raw full : List (List Held)) (is1 : List Item) (i : ℕ) (d : Item) (ps : List Part) (e : ExpandFault)
+    → AreTables names sets → IsTokenNamed names name → All (IsItemNamed names) is1 → All (AreKnown names sets) raw → All (AreKnown names sets) full → i < length is1
+    → IsFilling w s0 s1 names n1 sets name raw full is1 (drop i is1) ps → Stops (filled_text n1 sets (token_of n1 hide name) raw full (get_or is1 i d)) e
+    → Stops (all_filled_text names sets (token_of names hide name) raw full is1) e
+filling_stops w s0 s1 names n1 sets hide name raw full is1 i d ps e t k named a b l f h =
+    f.stops hide e (fill_stops_here names sets (token_of names hide name) raw full is1 i d e l
+      (subst (λ m. Stops m e) (filled_kept names n1 sets hide name raw full (get_or is1 i d) f.grows t.named a b (All-get_or (IsItemNamed names) is1 i d l named) k) h))
+
+pub filling_ends : (w : Watch) (s0 s1 : List Seen) (names n1 : List Text) (sets : Sets) (hide : List Text) (name : PpTok) (raw full : List (List Held)) (is1 left : List Item) (ps : List Part)
+    → left ≡ [] → IsFilling w s0 s1 names n1 sets name raw full is1 left ps → Does w s0 s1 (all_filled_text names sets (token_of names hide name) raw full is1) (part_texts n1 sets ps)
+filling_ends w s0 s1 names n1 sets hide name raw full is1 left ps e f =
+    subst (Does w s0 s1 (all_filled_text names sets (token_of names hide name) raw full is1)) (append-nil (part_texts n1 sets ps))
+    (f.does hide s1 [] (subst (λ x. Does w s1 s1 (all_filled_text names sets (token_of names hide name) raw full x) []) (sym e) (does_give w s1 [])))

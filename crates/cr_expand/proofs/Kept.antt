@@ -9,7 +9,8 @@ use Rattle.cr_expand.specs.declared.held.Held.{Held}
 use Rattle.cr_expand.specs.Tokens.{Text, Token, token_of, tokens_of}
 use Rattle.cr_expand.specs.Definition.{text_of}
 use Rattle.cr_expand.specs.HideSets.{Sets, set_at, Grows}
-use Rattle.cr_expand.specs.Held.{hidden, held, all_held, all_args, IsNamed, IsKnown, AreKnown, AreTables}
+use Rattle.cr_expand.specs.declared.notes.Notes.{Notes}
+use Rattle.cr_expand.specs.Held.{Watch, watch_of, hidden, held, all_held, all_args, IsNamed, IsKnown, AreKnown, AreTables}
 use Rattle.cr_expand.specs.Items.{IsTokenNamed}
 
 pub longer : {A : Type 0} (xs ys : List A) → Grows xs ys → length xs ≤ length ys
@@ -65,3 +66,8 @@ args_known_later names new sets more args g k l = All-weaker (AreKnown names set
 
 pub sets_named_later : (names new : List Text) (sets : Sets) → Grows names new → All (All (IsNamed names)) sets → All (All (IsNamed new)) sets
 sets_named_later names new sets g l = All-weaker (All (IsNamed names)) (All (IsNamed new)) (λ ns. All-weaker (IsNamed names) (IsNamed new) (λ n. named_later names new n g) ns) sets l
+
+pub watch_kept : (names new : List Text) (a b : Notes) → Grows names new → IsNamed names a.from × IsNamed names a.to → b.from ≡ a.from → b.to ≡ a.to → watch_of new b ≡ watch_of names a
+watch_kept names new a b g n e f =
+    ap {A = Text} (λ x. record { from = x; to = text_of new b.to }) (ap (text_of new) e ∙ name_kept names new a.from g n.0)
+    ∙ ap {A = Text} (λ x. record { from = text_of names a.from; to = x }) (ap (text_of new) f ∙ name_kept names new a.to g n.1)

@@ -12,6 +12,7 @@ use Rattle.cr_expand.specs.declared.parts.Part.TheVariants as part
 use Rattle.cr_expand.specs.declared.fault.ExpandFault.{ExpandFault}
 use Rattle.cr_expand.specs.Tokens.{Text, Token, token_of, Work}
 use Rattle.cr_expand.specs.Substitution as spec
+use Rattle.cr_base.specs.NameTable.{IsDistinct}
 use Rattle.cr_expand.specs.HideSets.{Sets, Grows}
 use Rattle.cr_expand.specs.Held.{held, all_held, all_args, IsKnown, AreKnown, AreTables, IsNamed, Watch, Does, Stops}
 use Rattle.cr_expand.specs.Items.{item_text, item_texts, IsTokenNamed}
@@ -92,3 +93,12 @@ all_filled_text names sets name raw full is1 = spec.all_filled name (all_args na
 abbrev pub Adds : Watch → List Seen → List Seen → Work (List spec.Part) → List Text → Sets → List Part → List Part → Type 0
 Adds w before now m new sets old parts =
     (added : List Part) × (parts ≡ old ++ added) × Does w before now m (part_texts new sets added) × All (IsPartKnown new sets) added
+
+-- What stands when some of the items are filled in: what goes on from here goes on from the start.
+pub record IsFilling (w : Watch) (before now : List Seen) (names new : List Text) (sets : Sets) (name : PpTok) (raw full : List (List Held)) (done left : List Item) (parts : List Part) : Type 0 where
+  pub grows : Grows names new
+  pub distinct : IsDistinct new
+  pub known : All (IsPartKnown new sets) parts
+  pub does : (hide : List Text) (s : List Seen) (rest : List spec.Part) → Does w now s (all_filled_text names sets (token_of names hide name) raw full left) rest
+      → Does w before s (all_filled_text names sets (token_of names hide name) raw full done) (part_texts new sets parts ++ rest)
+  pub stops : (hide : List Text) (e : ExpandFault) → Stops (all_filled_text names sets (token_of names hide name) raw full left) e → Stops (all_filled_text names sets (token_of names hide name) raw full done) e

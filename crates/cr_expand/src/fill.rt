@@ -7,7 +7,7 @@ ghost use Rattle.cr_expand.specs.Tokens.{Text, token_of};
 ghost use Rattle.cr_expand.specs.HideSets.{Grows, set_at};
 ghost use Rattle.cr_expand.specs.Held.{held, all_args, IsKnown, AreKnown, IsNamed, AreTables, watch_of, Does, Stops};
 ghost use Rattle.cr_expand.specs.declared.held.Held.{Held as TheHeld};
-ghost use Rattle.cr_expand.specs.Items.{item_text, item_texts};
+ghost use Rattle.cr_expand.specs.Items.{item_text, item_texts, IsTokenNamed};
 ghost use Rattle.cr_expand.specs.Parts.{part_text, part_texts, IsPartKnown, IsItemNamed, filled_here, IsMade, Adds, filled_text, all_filled_text};
 
 use crate::fault::ExpandFault;
@@ -75,4 +75,37 @@ fn fill_one(
     let made = made_for(alloc, names, sets, notes, name, raw, item)?;
     put_item(parts, raw, full, made, item)?;
     Ok(())
+}
+
+/// The parts of a body: its items filled in with the arguments as they are and expanded.
+pub fn fill(
+    alloc: Global,
+    names: &mut NameTable,
+    sets: &HideSets,
+    notes: &mut Notes,
+    name: PpTok,
+    raw: &[Vec<Held>],
+    full: &[Vec<Held>],
+    items: &[Item],
+) -> Result<Vec<Part>, ExpandFault>
+    requires room { length names.old + length items.now < 2 ^ 32 - 1 }
+    requires tables { AreTables names.old sets.now }
+    requires name { IsTokenNamed names.old name }
+    requires watched { IsNamed names.old notes.old.from × IsNamed names.old notes.old.to }
+    requires named { All (IsItemNamed names.old) items.now }
+    requires raw { All (AreKnown names.old sets.now) (map (λ v. v.items) raw.now) }
+    requires full { All (AreKnown names.old sets.now) (map (λ v. v.items) full.now) }
+    ensures does { (hide : List Text) → IfOk result (λ parts. Does (watch_of names.old notes.old) notes.old.seen.items notes.new.seen.items (all_filled_text names.old sets.now (token_of names.old hide name) (map (λ v. v.items) raw.now) (map (λ v. v.items) full.now) items.now) (part_texts names.new sets.now parts.items)) }
+    ensures known { IfOk result (λ parts. All (IsPartKnown names.new sets.now) parts.items) }
+    ensures stops { (hide : List Text) → IfErr result (λ e. Stops (all_filled_text names.old sets.now (token_of names.old hide name) (map (λ v. v.items) raw.now) (map (λ v. v.items) full.now) items.now) e) }
+    ensures grows { Grows names.old names.new }
+    ensures length { length names.new ≤ length names.old + length items.now }
+    ensures distinct { IsDistinct names.new }
+    ensures same { (notes.new.from ≡ notes.old.from) × (notes.new.to ≡ notes.old.to) }
+{
+    let mut parts = Vec::new(alloc);
+    for i in 0..items.len() {
+        fill_one(alloc, names, sets, notes, name, raw, full, items[i], &mut parts)?;
+    }
+    Ok(parts)
 }

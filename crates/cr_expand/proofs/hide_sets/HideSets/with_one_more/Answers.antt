@@ -3,8 +3,8 @@ use Rattle.std.specs.Prelude.{Bool, if◌then◌else◌, ◌++◌}
 use Rattle.std.specs.List.{list_any}
 use Rattle.cr_base.specs.declared.token.Name.{Name}
 use Rattle.cr_expand.specs.declared.hide_sets.Node.{Node}
-use Rattle.cr_expand.specs.HideSets.{set_at, sets_of, AreEarlier, Grows}
-use Rattle.cr_expand.proofs.Sets.{length_sets, earlier_keys, grows_keys, node_puts, puts_new}
+use Rattle.cr_expand.specs.HideSets.{set_at, sets_of, AreEarlier, Grows, AreBelow}
+use Rattle.cr_expand.proofs.Sets.{length_sets, earlier_keys, grows_keys, node_puts, puts_new, below_keys}
 use Rattle.cr_expand.proofs.hide_sets.HideSets.with_one_more.Goals as goal
 
 pub invariant_of-self-2 : goal.invariant_of-self-2
@@ -19,3 +19,7 @@ returns-clause-puts c =
     (node_puts c.args.self.now c.self.inside.nodes.keys c.put.new.nodes.keys (record { parent = c.args.set; name = c.args.name }) c.in_ok-place.place c.self.view_is
       (grows_keys _ c.self.inside.nodes.keys c.put.new.nodes.keys (record { parent = c.args.set; name = c.args.name }) c.in_ok-place.ensures.ok)
       (invariant_of-self-2 c) c.requires c.in_ok-place.ensures.place c.in_ok-place.ensures.within)
+
+pub returns-clause-below : goal.returns-clause-below
+returns-clause-below c = λ bound h k.
+    below_keys _ bound c.self.inside.nodes.keys c.put.new.nodes.keys (record { parent = c.args.set; name = c.args.name }) c.in_ok-place.ensures.ok h (subst (AreBelow bound) (sym c.self.view_is) k)
