@@ -10,3 +10,5 @@ pub mod Telling
 pub mod Kept
 pub mod StringLaws
 pub mod Fills
+pub mod HiddenNames
+pub mod Pastes

@@ -8,4 +8,5 @@ pub mod HideSets
 pub mod Held
 pub mod Items
 pub mod Parts
+pub mod Pasting
 pub mod Laws

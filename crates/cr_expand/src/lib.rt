@@ -15,6 +15,8 @@ mod notes;
 mod one_token;
 mod params;
 mod parts;
+mod paste;
+mod pasting;
 mod spelling;
 mod strings;
 mod words;

@@ -1,0 +1,36 @@
+-- Pastes from left to right, with names and hide sets by number.
+use Rattle.std.specs.Prelude.{◌≡◌, ℕ, ◌<◌, Bool, false, List, [], ◌∷◌, ◌++◌, length, map, Option, Some, None, option_map}
+use Rattle.std.specs.List.{All}
+use Rattle.cr_base.specs.declared.token.PpTok.{PpTok}
+use Rattle.cr_expand.specs.declared.macros.Seen.{Seen}
+use Rattle.cr_expand.specs.declared.held.Held.{Held}
+use Rattle.cr_expand.specs.declared.parts.Part.{Part}
+use Rattle.cr_expand.specs.declared.pasting.Pasting.{Pasting}
+use Rattle.cr_expand.specs.declared.fault.ExpandFault.{ExpandFault}
+use Rattle.cr_expand.specs.Tokens.{Text, Token, token_of}
+use Rattle.cr_expand.specs.Substitution as spec
+use Rattle.cr_expand.specs.HideSets.{Sets, Grows}
+use Rattle.cr_expand.specs.Held.{held, all_held, IsKnown, AreKnown, AreTables, Watch, Does, Stops}
+use Rattle.cr_expand.specs.Parts.{part_text, part_texts}
+
+abbrev pub left_text : List Text → Sets → Option Held → Option Token
+left_text names sets = option_map {T = Held} {U = Token} (λ h. held names sets h)
+
+abbrev pub IsLeftKnown : List Text → Sets → Option Held → Type 0
+IsLeftKnown names sets None = Unit {0}
+IsLeftKnown names sets (Some h) = IsKnown names sets h
+
+-- The pastes that are left once parts are taken: what goes on from here goes on from there.
+pub record PastesOn (w : Watch) (before now : List Seen) (names new : List Text) (sets more : Sets) (name : PpTok) (old_left left : Option Held) (old_pasting pasting : Bool) (taken : List Part) (added : List Held) : Type 0 where
+  pub does : (hide : List Text) (s : List Seen) (ps : List spec.Part) (rest : List Token) → Does w now s (spec.all_pasted (token_of names hide name) (left_text new more left) pasting ps) rest
+      → Does w before s (spec.all_pasted (token_of names hide name) (left_text names sets old_left) old_pasting (part_texts names sets taken ++ ps)) (all_held new more added ++ rest)
+  pub stops : (hide : List Text) (ps : List spec.Part) (e : ExpandFault) → Stops (spec.all_pasted (token_of names hide name) (left_text new more left) pasting ps) e
+      → Stops (spec.all_pasted (token_of names hide name) (left_text names sets old_left) old_pasting (part_texts names sets taken ++ ps)) e
+
+-- What was put, and what waits on the left, is known.
+abbrev pub IsPastingKnown : List Text → Sets → Pasting → Type 0
+IsPastingKnown names sets p = AreKnown names sets p.out.items × IsLeftKnown names sets p.left
+
+abbrev pub or_none : Option Held → List Held
+or_none None = []
+or_none (Some h) = h ∷ []

@@ -1,0 +1,65 @@
+//! The pastes of a body, from left to right.
+ghost use Rattle.std.specs.Prelude.{◌≡◌, ◌+◌, ◌-◌, ◌<◌, ◌≤◌, ◌^◌, ◌++◌, ◌∷◌, [], Some, None, IfOk, IfErr, OnOk, length, List, false};
+ghost use Rattle.cr_expand.specs.declared.held.Held.{Held as TheHeld};
+ghost use Rattle.cr_expand.specs.Substitution as spec;
+ghost use Rattle.cr_expand.specs.Tokens.{Text, token_of};
+ghost use Rattle.cr_expand.specs.HideSets.{Grows};
+ghost use Rattle.cr_expand.specs.Held.{held, IsKnown, AreTables, watch_of, Does, Stops};
+ghost use Rattle.cr_expand.specs.Pasting.{left_text, IsLeftKnown, or_none};
+
+use crate::fault::ExpandFault;
+use crate::held::Held;
+use crate::hide_sets::HideSets;
+use crate::notes::Notes;
+use crate::paste::paste;
+use cr_base::{NameTable, OutOfMemory, PpTok};
+use std::alloc::Global;
+
+/// What is put behind one another, the token on the left, and whether `##` is directly behind it.
+#[derive(Drop)]
+pub struct Pasting {
+    pub out: Vec<Held>,
+    pub left: Option<Held>,
+    pub pasting: bool,
+}
+
+// Puts a token behind the others, if there is one.
+fn put(out: &mut Vec<Held>, left: Option<Held>) -> Result<(), OutOfMemory>
+    ensures { OnOk result (out.new.items ≡ out.old.items ++ or_none left) }
+{
+    if let Some(h) = left {
+        out.push(h)?;
+    }
+    Ok(())
+}
+
+// A token pasted to what is on the left; with a placemarker it is itself.
+fn paste_after(
+    alloc: Global,
+    names: &mut NameTable,
+    sets: &mut HideSets,
+    notes: &mut Notes,
+    name: PpTok,
+    left: Option<Held>,
+    b: Held,
+) -> Result<Held, ExpandFault>
+    requires room { length names.old < 2 ^ 32 - 1 }
+    requires tables { AreTables names.old sets.old }
+    requires left { IsLeftKnown names.old sets.old left }
+    requires right { IsKnown names.old sets.old b }
+    ensures does { (hide : List Text) → IfOk result (λ h. Does (watch_of names.old notes.old) notes.old.seen.items notes.new.seen.items (spec.paste_after (token_of names.old hide name) (held names.old sets.old b) (left_text names.old sets.old left)) (held names.new sets.new h)) }
+    ensures stops { (hide : List Text) → IfErr result (λ e. Stops (spec.paste_after (token_of names.old hide name) (held names.old sets.old b) (left_text names.old sets.old left)) e) }
+    ensures known { IfOk result (λ h. IsKnown names.new sets.new h) }
+    ensures grows { OnOk result (Grows names.old names.new × Grows sets.old sets.new) }
+    ensures tables { OnOk result (AreTables names.new sets.new) }
+    ensures length { length names.new ≤ length names.old + 1 }
+    ensures same { (notes.new.from ≡ notes.old.from) × (notes.new.to ≡ notes.old.to) }
+{
+    match left {
+        None => Ok(b),
+        Some(a) => match paste(alloc, names, sets, notes, name, a, b) {
+            Ok(made) => Ok(made),
+            Err(e) => Err(e),
+        },
+    }
+}
