@@ -12,3 +12,4 @@ pub mod StringLaws
 pub mod Fills
 pub mod HiddenNames
 pub mod Pastes
+pub mod PastingLaws

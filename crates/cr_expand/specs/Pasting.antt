@@ -34,3 +34,9 @@ IsPastingKnown names sets p = AreKnown names sets p.out.items × IsLeftKnown nam
 abbrev pub or_none : Option Held → List Held
 or_none None = []
 or_none (Some h) = h ∷ []
+
+-- A part is taken: the tokens that it gives are put behind the others.
+abbrev pub Takes : Watch → List Seen → List Seen → List Text → List Text → Sets → Sets → PpTok → Pasting → Pasting → Part → Type 0
+Takes w before now names new sets more name old p taken =
+    (added : List Held) × (p.out.items ≡ old.out.items ++ added) × AreKnown new more added × IsLeftKnown new more p.left
+    × PastesOn w before now names new sets more name old.left p.left old.pasting p.pasting (taken ∷ []) added

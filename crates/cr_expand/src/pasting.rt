@@ -5,12 +5,14 @@ ghost use Rattle.cr_expand.specs.Substitution as spec;
 ghost use Rattle.cr_expand.specs.Tokens.{Text, token_of};
 ghost use Rattle.cr_expand.specs.HideSets.{Grows};
 ghost use Rattle.cr_expand.specs.Held.{held, IsKnown, AreTables, watch_of, Does, Stops};
-ghost use Rattle.cr_expand.specs.Pasting.{left_text, IsLeftKnown, or_none};
+ghost use Rattle.cr_expand.specs.Pasting.{left_text, IsLeftKnown, or_none, Takes};
+ghost use Rattle.cr_expand.specs.Parts.{part_text, IsPartKnown};
 
 use crate::fault::ExpandFault;
 use crate::held::Held;
 use crate::hide_sets::HideSets;
 use crate::notes::Notes;
+use crate::parts::Part;
 use crate::paste::paste;
 use cr_base::{NameTable, OutOfMemory, PpTok};
 use std::alloc::Global;
@@ -61,5 +63,62 @@ fn paste_after(
             Ok(made) => Ok(made),
             Err(e) => Err(e),
         },
+    }
+}
+
+// A token that isn't pasted, or a placemarker, comes behind what is on the left.
+fn go_past(state: &mut Pasting, next: Option<Held>) -> Result<(), OutOfMemory>
+    ensures { OnOk result ((state.new.out.items ≡ state.old.out.items ++ or_none state.old.left) × (state.new.left ≡ next) × (state.new.pasting ≡ false)) }
+{
+    put(&mut state.out, state.left)?;
+    state.left = next;
+    state.pasting = false;
+    Ok(())
+}
+
+// Takes one more part.
+fn take_part(
+    alloc: Global,
+    names: &mut NameTable,
+    sets: &mut HideSets,
+    notes: &mut Notes,
+    name: PpTok,
+    state: &mut Pasting,
+    part: Part,
+) -> Result<(), ExpandFault>
+    requires room { length names.old < 2 ^ 32 - 1 }
+    requires tables { AreTables names.old sets.old }
+    requires left { IsLeftKnown names.old sets.old state.old.left }
+    requires part { IsPartKnown names.old sets.old part }
+    ensures takes { OnOk result (Takes (watch_of names.old notes.old) notes.old.seen.items notes.new.seen.items names.old names.new sets.old sets.new name state.old state.new part) }
+    ensures stops { (hide : List Text) (ps : List spec.Part) → IfErr result (λ e. Stops (spec.all_pasted (token_of names.old hide name) (left_text names.old sets.old state.old.left) state.old.pasting (part_text names.old sets.old part ∷ ps)) e) }
+    ensures grows { OnOk result (Grows names.old names.new × Grows sets.old sets.new) }
+    ensures tables { OnOk result (AreTables names.new sets.new) }
+    ensures length { length names.new ≤ length names.old + 1 }
+    ensures same { (notes.new.from ≡ notes.old.from) × (notes.new.to ≡ notes.old.to) }
+{
+    match part {
+        Part::Joins => {
+            state.pasting = true;
+            Ok(())
+        }
+        Part::Placemarker => {
+            if state.pasting {
+                state.pasting = false;
+                return Ok(());
+            }
+            go_past(state, None)?;
+            Ok(())
+        }
+        Part::Is(b) => {
+            if !state.pasting {
+                go_past(state, Some(b))?;
+                return Ok(());
+            }
+            let made = paste_after(alloc, names, sets, notes, name, state.left, b)?;
+            state.left = Some(made);
+            state.pasting = false;
+            Ok(())
+        }
     }
 }
