@@ -144,7 +144,7 @@ filled_kept names new sets hide name raw full i g n a b h k =
     ∙ ap (λ x. spec.filled (token_of names hide name) (all_args names sets raw) x (item_text new i)) (all_args_kept names new sets sets full g (grows_same sets) n b)
     ∙ ap (spec.filled (token_of names hide name) (all_args names sets raw) (all_args names sets full)) (item_kept names new i g h)
 
-part_kept : (names new : List Text) (sets more : Sets) (p : Part) → Grows names new → Grows sets more → All (All (IsNamed names)) sets → IsPartKnown names sets p → part_text new more p ≡ part_text names sets p
+pub part_kept : (names new : List Text) (sets more : Sets) (p : Part) → Grows names new → Grows sets more → All (All (IsNamed names)) sets → IsPartKnown names sets p → part_text new more p ≡ part_text names sets p
 part_kept names new sets more (part.Is h) g k n l = ap spec.Is (held_kept names new sets more h g k n l)
 part_kept names new sets more part.Placemarker g k n l = refl
 part_kept names new sets more part.Joins g k n l = refl

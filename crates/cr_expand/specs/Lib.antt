@@ -9,4 +9,5 @@ pub mod Held
 pub mod Items
 pub mod Parts
 pub mod Pasting
+pub mod Placing
 pub mod Laws

@@ -40,3 +40,14 @@ abbrev pub Takes : Watch → List Seen → List Seen → List Text → List Text
 Takes w before now names new sets more name old p taken =
     (added : List Held) × (p.out.items ≡ old.out.items ++ added) × AreKnown new more added × IsLeftKnown new more p.left
     × PastesOn w before now names new sets more name old.left p.left old.pasting p.pasting (taken ∷ []) added
+
+-- What stands when some of the parts are taken.
+pub record IsPasting (w : Watch) (before now : List Seen) (names new : List Text) (sets more : Sets) (name : PpTok) (done rest_parts : List Part) (p : Pasting) : Type 0 where
+  pub grows : Grows names new
+  pub sets_grow : Grows sets more
+  pub tables : AreTables new more
+  pub known : IsPastingKnown new more p
+  pub does : (hide : List Text) (s : List Seen) (rest : List Token) → Does w now s (spec.all_pasted (token_of names hide name) (left_text new more p.left) p.pasting (part_texts names sets rest_parts)) rest
+      → Does w before s (spec.all_pasted (token_of names hide name) None false (part_texts names sets done)) (all_held new more p.out.items ++ rest)
+  pub stops : (hide : List Text) (e : ExpandFault) → Stops (spec.all_pasted (token_of names hide name) (left_text new more p.left) p.pasting (part_texts names sets rest_parts)) e
+      → Stops (spec.all_pasted (token_of names hide name) None false (part_texts names sets done)) e

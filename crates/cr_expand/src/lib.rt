@@ -17,6 +17,7 @@ mod params;
 mod parts;
 mod paste;
 mod pasting;
+mod place;
 mod spelling;
 mod strings;
 mod words;

@@ -4,9 +4,11 @@ ghost use Rattle.cr_expand.specs.declared.held.Held.{Held as TheHeld};
 ghost use Rattle.cr_expand.specs.Substitution as spec;
 ghost use Rattle.cr_expand.specs.Tokens.{Text, token_of};
 ghost use Rattle.cr_expand.specs.HideSets.{Grows};
-ghost use Rattle.cr_expand.specs.Held.{held, IsKnown, AreTables, watch_of, Does, Stops};
+ghost use Rattle.std.specs.List.{All};
+ghost use Rattle.cr_expand.specs.Items.{IsTokenNamed};
+ghost use Rattle.cr_expand.specs.Held.{held, all_held, IsKnown, AreKnown, IsNamed, AreTables, watch_of, Does, Stops};
 ghost use Rattle.cr_expand.specs.Pasting.{left_text, IsLeftKnown, or_none, Takes};
-ghost use Rattle.cr_expand.specs.Parts.{part_text, IsPartKnown};
+ghost use Rattle.cr_expand.specs.Parts.{part_text, part_texts, IsPartKnown};
 
 use crate::fault::ExpandFault;
 use crate::held::Held;
@@ -121,4 +123,39 @@ fn take_part(
             Ok(())
         }
     }
+}
+
+/// The tokens of a body's parts, each `##` done from left to right and the placemarkers gone.
+pub fn paste_all(
+    alloc: Global,
+    names: &mut NameTable,
+    sets: &mut HideSets,
+    notes: &mut Notes,
+    name: PpTok,
+    parts: &[Part],
+) -> Result<Vec<Held>, ExpandFault>
+    requires room { length names.old + length parts.now < 2 ^ 32 - 1 }
+    requires tables { AreTables names.old sets.old }
+    requires name { IsTokenNamed names.old name }
+    requires watched { IsNamed names.old notes.old.from × IsNamed names.old notes.old.to }
+    requires parts { All (IsPartKnown names.old sets.old) parts.now }
+    ensures does { (hide : List Text) → IfOk result (λ hs. Does (watch_of names.old notes.old) notes.old.seen.items notes.new.seen.items (spec.all_pasted (token_of names.old hide name) None false (part_texts names.old sets.old parts.now)) (all_held names.new sets.new hs.items)) }
+    ensures stops { (hide : List Text) → IfErr result (λ e. Stops (spec.all_pasted (token_of names.old hide name) None false (part_texts names.old sets.old parts.now)) e) }
+    ensures known { IfOk result (λ hs. AreKnown names.new sets.new hs.items) }
+    ensures grows { OnOk result (Grows names.old names.new × Grows sets.old sets.new) }
+    ensures tables { OnOk result (AreTables names.new sets.new) }
+    ensures length { OnOk result (length names.new ≤ length names.old + length parts.now) }
+    ensures same { OnOk result ((notes.new.from ≡ notes.old.from) × (notes.new.to ≡ notes.old.to)) }
+{
+    let mut state = Pasting {
+        out: Vec::new(alloc),
+        left: None,
+        pasting: false,
+    };
+    for i in 0..parts.len() {
+        take_part(alloc, names, sets, notes, name, &mut state, parts[i])?;
+    }
+    let Pasting { mut out, left, .. } = state;
+    put(&mut out, left)?;
+    Ok(out)
 }
