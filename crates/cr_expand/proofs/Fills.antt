@@ -1,6 +1,5 @@
 -- Items filled in, by their texts.
-use Rattle.std.proofs.Common.{◌≡◌, ℕ, zero, suc, ◌+◌, ◌<◌, drop, get_or, Bool, List, [], ◌∷◌, ◌++◌, length, map, refl, sym, ap, ◌∙◌, subst, arith}
-use Rattle.std.specs.Prelude.{slice_index_or}
+use Rattle.std.proofs.Common.{◌≡◌, ℕ, zero, suc, ◌+◌, ◌<◌, drop, get_or, Bool, List, [], ◌∷◌, ◌++◌, length, map, refl, sym, ap, ◌∙◌, subst}
 use Rattle.std.specs.List.{All}
 use Rattle.std.proofs.lemmas.List.Elements.{All-head, All-tail, All-cons, All-nil, All-get_or, All-weaker, All-append}
 use Rattle.cr_base.specs.declared.token.PpTok.{PpTok}
@@ -11,11 +10,11 @@ use Rattle.cr_expand.specs.declared.items.Item.TheVariants as item
 use Rattle.cr_expand.specs.declared.parts.Part.{Part}
 use Rattle.cr_expand.specs.declared.parts.Part.TheVariants as part
 use Rattle.cr_expand.specs.declared.fault.ExpandFault.{ExpandFault}
-use Rattle.cr_expand.specs.Tokens.{Text, Token, token_of, give, Work, ◌>>=◌}
+use Rattle.cr_expand.specs.Tokens.{Text, Token, token_of, give, ◌>>=◌}
 use Rattle.cr_expand.specs.Substitution as spec
 use Rattle.cr_expand.specs.HideSets.{Sets, set_at, Grows}
 use Rattle.cr_expand.specs.Definition.{text_of}
-use Rattle.cr_expand.specs.Held.{held, all_held, all_args, hidden, Watch, Does, Stops, IsKnown, AreKnown, IsNamed, AreTables}
+use Rattle.cr_expand.specs.Held.{held, all_held, all_args, Watch, Does, Stops, IsKnown, AreKnown, IsNamed, AreTables}
 use Rattle.cr_expand.specs.Items.{item_text, IsTokenNamed}
 use Rattle.cr_expand.specs.Parts.{part_text, part_texts, IsPartKnown, arg_here, spaced, parts_here, or_placemarker_here, comma_and_here, unhidden, filled_here, IsMade, IsItemNamed, filled_text, all_filled_text, Adds, IsFilling}
 use Rattle.cr_expand.proofs.Telling.{does_then, does_give, stops_first, stops_then}
@@ -67,16 +66,16 @@ fill_does w s0 s1 names new sets name raw full made (item.Spelt hash i) e h =
     (does_give w s1 (spec.Is (held new sets made) ∷ []))
 fill_does w s0 s1 names new sets name raw full made (item.Bare t i) e h =
     given w s0 s1 _ _ (ap (λ n. part_texts n sets (filled_here raw full made (item.Bare t i))) h.0
-      ∙ placemarker_text names sets (spaced t.space (arg_here raw i)) ∙ ap spec.or_placemarker (spaced_arg names sets t.space raw i)) h.1
+    ∙ placemarker_text names sets (spaced t.space (arg_here raw i)) ∙ ap spec.or_placemarker (spaced_arg names sets t.space raw i)) h.1
 fill_does w s0 s1 names new sets name raw full made (item.Full t i) e h =
     given w s0 s1 _ _ (ap (λ n. part_texts n sets (filled_here raw full made (item.Full t i))) h.0
-      ∙ parts_text names sets (spaced t.space (arg_here full i)) ∙ ap spec.parts_of (spaced_arg names sets t.space full i)) h.1
+    ∙ parts_text names sets (spaced t.space (arg_here full i)) ∙ ap spec.parts_of (spaced_arg names sets t.space full i)) h.1
 fill_does w s0 s1 names new sets name raw full made (item.CommaRest comma t i) e h =
     given w s0 s1 _ _ (ap (λ n. part_texts n sets (filled_here raw full made (item.CommaRest comma t i))) h.0
-      ∙ placemarker_text names sets (comma_and_here (unhidden comma) (spaced t.space (arg_here full i)) (arg_here raw i))
-      ∙ ap spec.or_placemarker (comma_text names sets comma (spaced t.space (arg_here full i)) (arg_here raw i) e
-        ∙ ap (λ x. spec.comma_and (token_of names [] comma) x (all_held names sets (arg_here raw i))) (spaced_arg names sets t.space full i)
-        ∙ ap (spec.comma_and (token_of names [] comma) (spec.with_space t.space (spec.arg_at (all_args names sets full) i))) (sym (arg_text names sets raw i)))) h.1
+    ∙ placemarker_text names sets (comma_and_here (unhidden comma) (spaced t.space (arg_here full i)) (arg_here raw i))
+    ∙ ap spec.or_placemarker (comma_text names sets comma (spaced t.space (arg_here full i)) (arg_here raw i) e
+    ∙ ap (λ x. spec.comma_and (token_of names [] comma) x (all_held names sets (arg_here raw i))) (spaced_arg names sets t.space full i)
+    ∙ ap (spec.comma_and (token_of names [] comma) (spec.with_space t.space (spec.arg_at (all_args names sets full) i))) (sym (arg_text names sets raw i)))) h.1
 fill_does w s0 s1 names new sets name raw full made item.Paste e h = given w s0 s1 _ _ refl h.1
 
 arg_known : (names : List Text) (sets : Sets) (args : List (List Held)) (i : ℕ) → All (AreKnown names sets) args → AreKnown names sets (arg_here args i)
@@ -126,7 +125,7 @@ pub string_item_stops : (names : List Text) (sets : Sets) (name : Token) (raw fu
 string_item_stops names sets name raw full i hash n arg e f a h =
     subst (λ x. Stops (filled_text names sets name raw full x) e) (sym f)
     (stops_first (spec.string_of name (token_of names [] hash) (spec.arg_at (all_args names sets raw) n)) (λ s. give (spec.Is s ∷ [])) e
-      (subst (λ x. Stops (spec.string_of name (token_of names [] hash) x) e) (ap (all_held names sets) a ∙ sym (arg_text names sets raw n)) h))
+    (subst (λ x. Stops (spec.string_of name (token_of names [] hash) x) e) (ap (all_held names sets) a ∙ sym (arg_text names sets raw n)) h))
 
 item_kept : (names new : List Text) (i : Item) → Grows names new → IsItemNamed names i → item_text new i ≡ item_text names i
 item_kept names new (item.Stays t) g h = ap spec.Stays (token_kept names new [] t g h)
@@ -170,7 +169,7 @@ pub fill_goes_on : (w : Watch) (s1 s2 s : List Seen) (names : List Text) (sets :
 fill_goes_on w s1 s2 s names sets name raw full is1 i d ps rest l h k =
     subst (λ x. Does w s1 s (all_filled_text names sets name raw full x) (ps ++ rest)) (sym (cut_at is1 i d l))
     (does_then w s1 s2 s (filled_text names sets name raw full (get_or is1 i d)) (λ qs. all_filled_text names sets name raw full (drop (i + 1) is1) >>= λ more. give (qs ++ more)) ps (ps ++ rest) h
-      (does_then w s2 s s (all_filled_text names sets name raw full (drop (i + 1) is1)) (λ more. give (ps ++ more)) rest (ps ++ rest) k (does_give w s (ps ++ rest))))
+    (does_then w s2 s s (all_filled_text names sets name raw full (drop (i + 1) is1)) (λ more. give (ps ++ more)) rest (ps ++ rest) k (does_give w s (ps ++ rest))))
 
 pub fill_stops_here : (names : List Text) (sets : Sets) (name : Token) (raw full : List (List Held)) (is1 : List Item) (i : ℕ) (d : Item) (e : ExpandFault) → i < length is1
     → Stops (filled_text names sets name raw full (get_or is1 i d)) e → Stops (all_filled_text names sets name raw full (drop i is1)) e
@@ -183,7 +182,7 @@ pub fill_stops_later : (w : Watch) (s1 s2 : List Seen) (names : List Text) (sets
 fill_stops_later w s1 s2 names sets name raw full is1 i d ps e l h k =
     subst (λ x. Stops (all_filled_text names sets name raw full x) e) (sym (cut_at is1 i d l))
     (stops_then w s1 s2 (filled_text names sets name raw full (get_or is1 i d)) (λ qs. all_filled_text names sets name raw full (drop (i + 1) is1) >>= λ more. give (qs ++ more)) ps e h
-      (stops_first (all_filled_text names sets name raw full (drop (i + 1) is1)) (λ more. give (ps ++ more)) e k))
+    (stops_first (all_filled_text names sets name raw full (drop (i + 1) is1)) (λ more. give (ps ++ more)) e k))
 
 pub filling_starts : (w : Watch) (s : List Seen) (names : List Text) (sets : Sets) (name : PpTok) (raw full : List (List Held)) (is1 : List Item) → IsDistinct names → IsFilling w s s names names sets name raw full is1 is1 []
 filling_starts w s names sets name raw full is1 d = record {
@@ -205,19 +204,19 @@ filling_goes_on w w1 s0 s1 s2 names n1 n2 sets name raw full is1 i d ps qs t k n
     let n1_named : All (All (IsNamed n1)) sets = sets_named_later names n1 sets f.grows t.named in
     let item_named : IsItemNamed names (get_or is1 i d) = All-get_or (IsItemNamed names) is1 i d l named in
     let does_one : (hide : List Text) → Does w s1 s2 (filled_text names sets (token_of names hide name) raw full (get_or is1 i d)) (part_texts n2 sets (adds hide).0) =
-        λ hide. subst (λ x. Does x s1 s2 (filled_text names sets (token_of names hide name) raw full (get_or is1 i d)) (part_texts n2 sets (adds hide).0)) e
-          (subst (λ m. Does w1 s1 s2 m (part_texts n2 sets (adds hide).0)) (filled_kept names n1 sets hide name raw full (get_or is1 i d) f.grows t.named a b item_named k) (adds hide).2) in
+    λ hide. subst (λ x. Does x s1 s2 (filled_text names sets (token_of names hide name) raw full (get_or is1 i d)) (part_texts n2 sets (adds hide).0)) e
+    (subst (λ m. Does w1 s1 s2 m (part_texts n2 sets (adds hide).0)) (filled_kept names n1 sets hide name raw full (get_or is1 i d) f.grows t.named a b item_named k) (adds hide).2) in
     record {
       grows = grows_then names n1 n2 f.grows g;
       distinct = dis;
       known = subst (All (IsPartKnown n2 sets)) (sym one.1) (All-append (IsPartKnown n2 sets) ps one.0 (parts_later n1 n2 sets sets ps g (grows_same sets) f.known) one.3);
       does = λ hide s rest h.
-        subst (λ x. Does w s0 s (all_filled_text names sets (token_of names hide name) raw full is1) x)
-        (ap (λ x. x ++ (part_texts n2 sets (adds hide).0 ++ rest)) (sym (parts_kept n1 n2 sets sets ps g (grows_same sets) n1_named f.known))
+          subst (λ x. Does w s0 s (all_filled_text names sets (token_of names hide name) raw full is1) x)
+          (ap (λ x. x ++ (part_texts n2 sets (adds hide).0 ++ rest)) (sym (parts_kept n1 n2 sets sets ps g (grows_same sets) n1_named f.known))
           ∙ sym (append_assoc (part_texts n2 sets ps) (part_texts n2 sets (adds hide).0) rest)
           ∙ ap (λ x. x ++ rest) (sym (map-append (part_text n2 sets) ps (adds hide).0))
           ∙ ap (λ x. part_texts n2 sets x ++ rest) (sym (adds hide).1))
-        (f.does hide s (part_texts n2 sets (adds hide).0 ++ rest) (fill_goes_on w s1 s2 s names sets (token_of names hide name) raw full is1 i d (part_texts n2 sets (adds hide).0) rest l (does_one hide) h));
+          (f.does hide s (part_texts n2 sets (adds hide).0 ++ rest) (fill_goes_on w s1 s2 s names sets (token_of names hide name) raw full is1 i d (part_texts n2 sets (adds hide).0) rest l (does_one hide) h));
       stops = λ hide e1 h. f.stops hide e1 (fill_stops_later w s1 s2 names sets (token_of names hide name) raw full is1 i d (part_texts n2 sets (adds hide).0) e1 l (does_one hide) h);
     }
 
@@ -227,7 +226,7 @@ pub filling_stops : (w : Watch) (s0 s1 : List Seen) (names n1 : List Text) (sets
     → Stops (all_filled_text names sets (token_of names hide name) raw full is1) e
 filling_stops w s0 s1 names n1 sets hide name raw full is1 i d ps e t k named a b l f h =
     f.stops hide e (fill_stops_here names sets (token_of names hide name) raw full is1 i d e l
-      (subst (λ m. Stops m e) (filled_kept names n1 sets hide name raw full (get_or is1 i d) f.grows t.named a b (All-get_or (IsItemNamed names) is1 i d l named) k) h))
+    (subst (λ m. Stops m e) (filled_kept names n1 sets hide name raw full (get_or is1 i d) f.grows t.named a b (All-get_or (IsItemNamed names) is1 i d l named) k) h))
 
 pub filling_ends : (w : Watch) (s0 s1 : List Seen) (names n1 : List Text) (sets : Sets) (hide : List Text) (name : PpTok) (raw full : List (List Held)) (is1 left : List Item) (ps : List Part)
     → left ≡ [] → IsFilling w s0 s1 names n1 sets name raw full is1 left ps → Does w s0 s1 (all_filled_text names sets (token_of names hide name) raw full is1) (part_texts n1 sets ps)

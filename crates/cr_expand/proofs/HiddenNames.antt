@@ -1,5 +1,5 @@
 -- Hide sets by number and by text.
-use Rattle.std.proofs.Common.{◌≡◌, ℕ, ◌<◌, Bool, true, false, List, [], ◌∷◌, ◌++◌, length, map, refl, sym, ap, ◌∙◌, subst}
+use Rattle.std.proofs.Common.{◌≡◌, Bool, true, false, List, [], ◌∷◌, map, refl, sym, ap, ◌∙◌}
 use Rattle.std.specs.Prelude.{◌==◌, ◌||◌, if◌then◌else◌, bytes_eq}
 use Rattle.std.specs.List.{All, list_any}
 use Rattle.std.proofs.lemmas.List.Elements.{All-head, All-tail, All-cons, All-nil}
@@ -47,9 +47,9 @@ both_text names (x ∷ xs) ys d h k =
     by (has_name ys x)
     ∙ ap (λ b. if b then with_name (text_of names x) (map (text_of names) (in_both xs ys)) else map (text_of names) (in_both xs ys)) (sym (has_text names d ys x k (All-head (IsNamed names) x xs h)))
     ∙ ap (λ l. if has (map (text_of names) ys) (text_of names x) then with_name (text_of names x) l else l) (both_text names xs ys d (All-tail (IsNamed names) x xs h) k) where
-  by : (b : Bool) → map (text_of names) (if b then with_number x (in_both xs ys) else in_both xs ys) ≡ (if b then with_name (text_of names x) (map (text_of names) (in_both xs ys)) else map (text_of names) (in_both xs ys))
-  by true = with_text names d (in_both xs ys) x (both_named names xs ys (All-tail (IsNamed names) x xs h)) (All-head (IsNamed names) x xs h)
-  by false = refl
+      by : (b : Bool) → map (text_of names) (if b then with_number x (in_both xs ys) else in_both xs ys) ≡ (if b then with_name (text_of names x) (map (text_of names) (in_both xs ys)) else map (text_of names) (in_both xs ys))
+      by true = with_text names d (in_both xs ys) x (both_named names xs ys (All-tail (IsNamed names) x xs h)) (All-head (IsNamed names) x xs h)
+      by false = refl
 
 pub numbers_text : (names : List Text) (base ns : List Name) → IsDistinct names → All (IsNamed names) base → All (IsNamed names) ns → map (text_of names) (with_numbers base ns) ≡ with_names (map (text_of names) base) (map (text_of names) ns)
 numbers_text names base [] d h k = refl

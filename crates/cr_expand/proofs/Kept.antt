@@ -1,19 +1,18 @@
 -- What is known stays as it was when the tables grow.
-use Rattle.std.proofs.Common.{◌≡◌, ℕ, ◌+◌, ◌<◌, ◌≤◌, List, [], ◌∷◌, ◌++◌, length, map, get_or, refl, sym, ap, ◌∙◌, subst, arith, length-append, append-nil, Bool, true, false}
+use Rattle.std.proofs.Common.{◌≡◌, ℕ, ◌<◌, ◌≤◌, List, [], ◌∷◌, ◌++◌, length, map, get_or, refl, sym, ap, ◌∙◌, arith, length-append, append-nil, Bool, true, false}
 use Rattle.std.specs.Prelude.{if◌then◌else◌}
 use Rattle.cr_base.specs.NameTable.{IsDistinct}
 use Rattle.std.specs.List.{All}
 use Rattle.std.proofs.lemmas.List.{get_or_append_left}
-use Rattle.std.proofs.lemmas.List.Elements.{All-head, All-tail, All-get_or, All-weaker, All-append}
+use Rattle.std.proofs.lemmas.List.Elements.{All-head, All-tail, All-get_or, All-weaker}
 use Rattle.cr_base.specs.declared.token.Name.{Name}
 use Rattle.cr_base.specs.declared.token.PpTok.{PpTok}
 use Rattle.cr_expand.specs.declared.held.Held.{Held}
-use Rattle.cr_expand.specs.Tokens.{Text, Token, token_of, tokens_of}
+use Rattle.cr_expand.specs.Tokens.{Text, token_of}
 use Rattle.cr_expand.specs.Definition.{text_of}
 use Rattle.cr_expand.specs.HideSets.{Sets, set_at, Grows}
 use Rattle.cr_expand.specs.declared.notes.Notes.{Notes}
-use Rattle.cr_expand.specs.Held.{Watch, watch_of, hidden, held, all_held, all_args, IsNamed, IsKnown, AreKnown, AreTables}
-use Rattle.cr_expand.specs.Items.{IsTokenNamed}
+use Rattle.cr_expand.specs.Held.{watch_of, hidden, held, all_held, all_args, IsNamed, IsKnown, AreKnown, AreTables}
 
 pub longer : {A : Type 0} (xs ys : List A) → Grows xs ys → length xs ≤ length ys
 longer xs ys g = let a = ap length g.1 in let b = length-append xs g.0 in omega (arith, a, b)

@@ -13,3 +13,4 @@ pub mod Fills
 pub mod HiddenNames
 pub mod Pastes
 pub mod PastingLaws
+pub mod Places

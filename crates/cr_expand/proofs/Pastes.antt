@@ -1,19 +1,17 @@
 -- `##`, once it is known what the texts make.
-use Rattle.std.proofs.Common.{◌≡◌, ℕ, ◌<◌, List, [], ◌∷◌, ◌++◌, map, length, refl, sym, ap, ◌∙◌, append_assoc, Option, Some, None, subst}
+use Rattle.std.proofs.Common.{◌≡◌, ℕ, ◌<◌, List, [], ◌++◌, map, length, sym, ap, ◌∙◌, append_assoc, Some, subst}
 use Rattle.std.specs.List.{All}
 use Rattle.cr_base.specs.NameTable.{IsDistinct}
 use Rattle.cr_base.specs.declared.token.PpKind.{PpKind}
-use Rattle.cr_base.specs.declared.token.PpTok.{PpTok}
 use Rattle.cr_base.specs.declared.token.Name.{Name}
 use Rattle.cr_base.specs.declared.cause.Role.TheVariants.{Pasted}
 use Rattle.cr_expand.specs.declared.macros.Seen.{Seen}
-use Rattle.cr_expand.specs.declared.held.Held.{Held}
 use Rattle.cr_expand.specs.OneToken.{one_token}
-use Rattle.cr_expand.specs.Tokens.{Text, Token, token_of, takes, both, note}
+use Rattle.cr_expand.specs.Tokens.{Text, Token, takes, both}
 use Rattle.cr_expand.specs.Definition.{text_of}
 use Rattle.cr_expand.specs.Substitution as spec
 use Rattle.cr_expand.specs.HideSets.{Sets, set_at, in_both, Grows}
-use Rattle.cr_expand.specs.Held.{Watch, noted, Does, held, hidden, IsNamed, IsKnown, AreTables}
+use Rattle.cr_expand.specs.Held.{Watch, noted, Does, hidden, IsNamed, AreTables}
 use Rattle.cr_expand.proofs.Noted.{noted_append}
 use Rattle.cr_expand.proofs.Telling.{does_note}
 use Rattle.cr_expand.proofs.Kept.{names_kept, named_later}
@@ -25,8 +23,8 @@ pub paste_does : (w : Watch) (s0 s1 s2 : List Seen) (name a b v : Token) (kind :
 paste_does w s0 s1 s2 name a b v kind e h k m =
     subst (Does w s0 s2 (spec.paste name a b)) m
     (subst (λ x. Does w s0 s2 x (spec.made name kind (a.text ++ b.text) a.space (both a.hide b.hide))) (sym (ap (spec.pasted_as name a b) e))
-      (does_note w s0 s2 (takes Pasted a ++ takes Pasted b) (spec.made name kind (a.text ++ b.text) a.space (both a.hide b.hide))
-        (k ∙ ap (λ s. s ++ noted w (takes Pasted b)) h ∙ append_assoc s0 (noted w (takes Pasted a)) (noted w (takes Pasted b)) ∙ ap (λ s. s0 ++ s) (sym (noted_append w (takes Pasted a) (takes Pasted b))))))
+    (does_note w s0 s2 (takes Pasted a ++ takes Pasted b) (spec.made name kind (a.text ++ b.text) a.space (both a.hide b.hide))
+    (k ∙ ap (λ s. s ++ noted w (takes Pasted b)) h ∙ append_assoc s0 (noted w (takes Pasted a)) (noted w (takes Pasted b)) ∙ ap (λ s. s0 ++ s) (sym (noted_append w (takes Pasted a) (takes Pasted b))))))
 
 -- what is hidden from both, by text
 pub hidden_both : (names new : List Text) (sets more : Sets) (a b n : ℕ) → AreTables names sets → IsDistinct new → Grows names new → a < length sets → b < length sets → set_at more n ≡ in_both (set_at sets a) (set_at sets b)

@@ -85,13 +85,12 @@ node_puts old nodes new v place e g h p at within =
     let got : get_or new place v ≡ v = get_or_from_slice_get new place v v at in
     let here : (place + 1) - 1 ≡ place = omega arith in
     let g2 : Grows old (sets_of new) = subst (λ s. Grows s (sets_of new)) e g in
-    let node : get_or new ((place + 1) - 1) v ≡ v = ap (λ n. get_or new n v) here ∙ got in
-    (
+    let node : get_or new ((place + 1) - 1) v ≡ v = ap (λ n. get_or new n v) here ∙ got in (
       g2,
       omega (arith, length_sets new),
       set_of_node new (place + 1) v h (omega arith) (omega arith)
-      ∙ ap (λ n. n.name ∷ set_at (sets_of new) n.parent.0) node
-      ∙ ap (λ s. v.name ∷ s) (set_kept old (sets_of new) v.parent.0 g2 p),
+          ∙ ap (λ n. n.name ∷ set_at (sets_of new) n.parent.0) node
+          ∙ ap (λ s. v.name ∷ s) (set_kept old (sets_of new) v.parent.0 g2 p),
     )
 
 pub puts_new : (old new : Sets) (name : Name) (set n : ℕ) → has_name (set_at old set) name ≡ false → Puts old (name ∷ set_at old set) new n → Puts old (with_number name (set_at old set)) new n

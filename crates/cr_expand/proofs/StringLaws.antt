@@ -1,5 +1,5 @@
 -- Strings of arguments.
-use Rattle.std.proofs.Common.{◌≡◌, ℕ, Bool, true, false, List, [], ◌∷◌, ◌++◌, map, refl, sym, ap, ◌∙◌, subst}
+use Rattle.std.proofs.Common.{◌≡◌, true, false, List, [], ◌∷◌, ◌++◌, refl, sym, ap, subst}
 use Rattle.std.specs.Prelude.{flat_map, if◌then◌else◌}
 use Rattle.cr_base.specs.declared.token.PpKind.TheVariants.{Str}
 use Rattle.cr_base.specs.declared.cause.Role.TheVariants.{Stringized}
@@ -8,7 +8,7 @@ use Rattle.cr_expand.specs.declared.held.Held.{Held}
 use Rattle.cr_expand.specs.declared.fault.ExpandFault.{ExpandFault}
 use Rattle.cr_expand.specs.declared.fault.ExpandFault.TheVariants as fault
 use Rattle.cr_expand.specs.OneToken.{is_string}
-use Rattle.cr_expand.specs.Tokens.{Text, Token, BadPaste, Work, note, fail, takes}
+use Rattle.cr_expand.specs.Tokens.{Text, Token, BadPaste, note, fail, takes}
 use Rattle.cr_expand.specs.Substitution.{string_of, spelling, spelling_of, spelling_of_rest, in_quotes, made}
 use Rattle.cr_expand.specs.HideSets.{Sets}
 use Rattle.cr_expand.specs.Held.{Watch, noted, Does, Stops, held, all_held}
@@ -28,8 +28,8 @@ pub string_does : (w : Watch) (s0 s1 : List Seen) (name hash : Token) (arg : Lis
 string_does w s0 s1 name hash arg v e s h =
     subst (Does w s0 s1 (string_of name hash arg)) h
     (subst (λ m. Does w s0 s1 m (made name Str (in_quotes (spelling arg)) hash.space []))
-      (sym (ap (λ b. if b then note (flat_map (takes Stringized) arg) (made name Str (in_quotes (spelling arg)) hash.space []) else fail (BadPaste name.site)) e))
-      (does_note w s0 s1 (flat_map (takes Stringized) arg) (made name Str (in_quotes (spelling arg)) hash.space []) s))
+    (sym (ap (λ b. if b then note (flat_map (takes Stringized) arg) (made name Str (in_quotes (spelling arg)) hash.space []) else fail (BadPaste name.site)) e))
+    (does_note w s0 s1 (flat_map (takes Stringized) arg) (made name Str (in_quotes (spelling arg)) hash.space []) s))
 
 pub string_stops : (name hash : Token) (arg : List Token) (e : ExpandFault) → is_string (in_quotes (spelling arg)) ≡ false → e ≡ fault.BadPaste name.site → Stops (string_of name hash arg) e
 string_stops name hash arg e f h =

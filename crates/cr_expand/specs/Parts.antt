@@ -1,10 +1,9 @@
 -- Items filled in, with names and hide sets by number.
-use Rattle.std.specs.Prelude.{◌≡◌, ℕ, ◌+◌, ◌<◌, ◌≤◌, Bool, List, [], ◌∷◌, ◌++◌, length, map, slice_index_or, Option, Some, None}
+use Rattle.std.specs.Prelude.{◌≡◌, ℕ, Bool, List, [], ◌∷◌, ◌++◌, map, slice_index_or}
 use Rattle.std.specs.List.{All}
 use Rattle.cr_base.specs.declared.token.PpTok.{PpTok}
 use Rattle.cr_expand.specs.declared.macros.Seen.{Seen}
 use Rattle.cr_expand.specs.declared.held.Held.{Held}
-use Rattle.cr_expand.specs.declared.notes.Notes.{Notes}
 use Rattle.cr_expand.specs.declared.items.Item.{Item}
 use Rattle.cr_expand.specs.declared.items.Item.TheVariants as item
 use Rattle.cr_expand.specs.declared.parts.Part.{Part}
@@ -14,7 +13,7 @@ use Rattle.cr_expand.specs.Tokens.{Text, Token, token_of, Work}
 use Rattle.cr_expand.specs.Substitution as spec
 use Rattle.cr_base.specs.NameTable.{IsDistinct}
 use Rattle.cr_expand.specs.HideSets.{Sets, Grows}
-use Rattle.cr_expand.specs.Held.{held, all_held, all_args, IsKnown, AreKnown, AreTables, IsNamed, Watch, Does, Stops}
+use Rattle.cr_expand.specs.Held.{held, all_held, all_args, IsKnown, Watch, Does, Stops}
 use Rattle.cr_expand.specs.Items.{item_text, item_texts, IsTokenNamed}
 
 -- a part with its text

@@ -1,6 +1,5 @@
 -- Pastes from left to right, with names and hide sets by number.
-use Rattle.std.specs.Prelude.{◌≡◌, ℕ, ◌<◌, Bool, false, List, [], ◌∷◌, ◌++◌, length, map, Option, Some, None, option_map}
-use Rattle.std.specs.List.{All}
+use Rattle.std.specs.Prelude.{◌≡◌, Bool, false, List, [], ◌∷◌, ◌++◌, Option, Some, None, option_map}
 use Rattle.cr_base.specs.declared.token.PpTok.{PpTok}
 use Rattle.cr_expand.specs.declared.macros.Seen.{Seen}
 use Rattle.cr_expand.specs.declared.held.Held.{Held}
@@ -11,7 +10,7 @@ use Rattle.cr_expand.specs.Tokens.{Text, Token, token_of}
 use Rattle.cr_expand.specs.Substitution as spec
 use Rattle.cr_expand.specs.HideSets.{Sets, Grows}
 use Rattle.cr_expand.specs.Held.{held, all_held, IsKnown, AreKnown, AreTables, Watch, Does, Stops}
-use Rattle.cr_expand.specs.Parts.{part_text, part_texts}
+use Rattle.cr_expand.specs.Parts.{part_texts}
 
 abbrev pub left_text : List Text → Sets → Option Held → Option Token
 left_text names sets = option_map {T = Held} {U = Token} (λ h. held names sets h)

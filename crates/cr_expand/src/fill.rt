@@ -105,7 +105,9 @@ pub fn fill(
 {
     let mut parts = Vec::new(alloc);
     for i in 0..items.len() {
-        fill_one(alloc, names, sets, notes, name, raw, full, items[i], &mut parts)?;
+        fill_one(
+            alloc, names, sets, notes, name, raw, full, items[i], &mut parts,
+        )?;
     }
     Ok(parts)
 }

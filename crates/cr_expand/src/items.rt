@@ -76,13 +76,7 @@ fn next_is_paste(names: &NameTable, rest: &[PpTok]) -> bool
 }
 
 // The parameter that comes next, behind a `#`.
-fn spelt(
-    names: &NameTable,
-    m: &Macro,
-    params: &Params,
-    t: PpTok,
-    rest: &[PpTok],
-) -> Option<usize>
+fn spelt(names: &NameTable, m: &Macro, params: &Params, t: PpTok, rest: &[PpTok]) -> Option<usize>
     requires serves { Serves names.now m.now params.now }
     requires known { All (IsTokenNamed names.now) rest.now }
     ensures { result ≡ spec.only_if (is_some m.now.params && spec.is_hash (token_of names.now [] t)) (spec.next_param (macro_text names.now m.now) (tokens_of names.now rest.now)) }

@@ -5,8 +5,8 @@ ghost use Rattle.cr_expand.specs.Laws.{FollowsTheRules};
 
 mod definition;
 mod fault;
-mod held;
 mod fill;
+mod held;
 mod hide_sets;
 mod items;
 mod macro_table;
@@ -31,3 +31,6 @@ pub use macros::{Macro, Seen};
 pub fn expansion_follows_the_rules()
     ensures { FollowsTheRules }
 {}
+
+#[cfg(test)]
+mod tests;

@@ -17,12 +17,7 @@ use crate::words::text;
 use cr_base::{NameTable, OutOfMemory, PpTok, Role};
 use std::alloc::Global;
 
-fn joined(
-    alloc: Global,
-    names: &NameTable,
-    a: PpTok,
-    b: PpTok,
-) -> Result<Vec<u8>, OutOfMemory>
+fn joined(alloc: Global, names: &NameTable, a: PpTok, b: PpTok) -> Result<Vec<u8>, OutOfMemory>
     ensures { IfOk result (λ v. v.items ≡ text_of names.now a.text ++ text_of names.now b.text) }
 {
     let mut out = Vec::new(alloc);

@@ -1,10 +1,9 @@
-use Rattle.std.proofs.Common.{◌≡◌, map, rules}
+use Rattle.std.proofs.Common.{map}
 use Rattle.std.proofs.lemmas.Result.{err_from_is_err_and}
 use Rattle.cr_expand.specs.Tokens.{token_of}
 use Rattle.cr_expand.specs.Held.{watch_of}
 use Rattle.cr_expand.specs.Parts.{filled_here}
 use Rattle.cr_expand.proofs.Fills.{fill_does, fill_known}
-use Rattle.cr_expand.proofs.Telling.{stops_memory}
 use Rattle.cr_expand.proofs.fill.fill_one.Goals as goal
 
 pub returns-clause-adds : goal.returns-clause-adds
@@ -12,9 +11,9 @@ returns-clause-adds c = λ hide. (
   filled_here (map (λ v. v.items) c.args.raw.now) (map (λ v. v.items) c.args.full.now) c.in_ok-made.made c.args.item,
   c.in_ok-put_item.ensures,
   fill_does (watch_of c.args.names.now c.args.notes.now) c.args.notes.now.seen.items c.made_for.new.notes.seen.items c.args.names.now c.made_for.new.names c.args.sets.now (token_of c.args.names.now hide c.args.name)
-    (map (λ v. v.items) c.args.raw.now) (map (λ v. v.items) c.args.full.now) c.in_ok-made.made c.args.item c.requires.tables.first (c.in_ok-made.ensures.made hide),
+      (map (λ v. v.items) c.args.raw.now) (map (λ v. v.items) c.args.full.now) c.in_ok-made.made c.args.item c.requires.tables.first (c.in_ok-made.ensures.made hide),
   fill_known (watch_of c.args.names.now c.args.notes.now) c.args.notes.now.seen.items c.made_for.new.notes.seen.items c.args.names.now c.made_for.new.names c.args.sets.now (token_of c.args.names.now hide c.args.name)
-    (map (λ v. v.items) c.args.raw.now) (map (λ v. v.items) c.args.full.now) c.in_ok-made.made c.args.item c.requires.tables.some c.requires.named c.requires.raw c.requires.full (c.in_ok-made.ensures.made hide),
+      (map (λ v. v.items) c.args.raw.now) (map (λ v. v.items) c.args.full.now) c.in_ok-made.made c.args.item c.requires.tables.some c.requires.named c.requires.raw c.requires.full (c.in_ok-made.ensures.made hide),
 )
 
 pub returns-in_err-made-clause-stops : goal.returns-in_err-made-clause-stops

@@ -1,4 +1,4 @@
-use Rattle.std.proofs.Common.{◌≡◌, map, rules}
+use Rattle.std.proofs.Common.{map}
 use Rattle.std.proofs.lemmas.Result.{err_from_is_err_and}
 use Rattle.cr_expand.specs.Tokens.{token_of}
 use Rattle.cr_expand.specs.Held.{watch_of}

@@ -1,11 +1,11 @@
 use Rattle.std.proofs.Common.{◌≡◌, ◌<◌, ◌∙◌, ◌++◌, [], sym, ap, subst, List, length}
 use Rattle.std.proofs.lemmas.Option.{get_or_from_slice_get, slice_get_within}
 use Rattle.cr_expand.specs.OneToken.{one_token}
-use Rattle.cr_expand.specs.Tokens.{Text, token_of, both, takes}
+use Rattle.cr_expand.specs.Tokens.{Text, token_of, takes}
 use Rattle.cr_base.specs.declared.cause.Role.TheVariants.{Pasted}
 use Rattle.cr_expand.specs.Substitution as spec
 use Rattle.cr_expand.specs.Definition.{text_of}
-use Rattle.cr_expand.specs.HideSets.{Grows, AreBelow}
+use Rattle.cr_expand.specs.HideSets.{Grows}
 use Rattle.cr_expand.specs.Held.{watch_of, held, hidden, noted}
 use Rattle.cr_expand.proofs.Noted.{same_watch}
 use Rattle.cr_expand.proofs.Kept.{interned_grows, tables_later, sets_named_later}
@@ -37,7 +37,7 @@ returns-clause-does c = λ hide.
     (c.in_ok-take.ensures.seen (hidden c.args.names.now c.args.sets.now c.args.a.hide.0))
     (c.in_ok-take-2.ensures.seen (hidden c.args.names.now c.args.sets.now c.args.b.hide.0) ∙ ap (λ w. c.take.new.self.seen.items ++ noted w (takes Pasted (held c.args.names.now c.args.sets.now c.args.b))) (same_watch c.args.names.now c.take.new.self c.args.notes.now c.in_ok-take.ensures.same.0 c.in_ok-take.ensures.same.1))
     (sym (
-      c.made.ensures.token names (hidden names c.both.new.self c.in_ok-hide.hide.0) hide
-      ∙ ap (λ t. spec.made (token_of names hide c.args.name) c.in-Some.kind t c.args.a.token.space (hidden names c.both.new.self c.in_ok-hide.hide.0)) text
-      ∙ ap (spec.made (token_of names hide c.args.name) c.in-Some.kind joined c.args.a.token.space) hides
+    c.made.ensures.token names (hidden names c.both.new.self c.in_ok-hide.hide.0) hide
+    ∙ ap (λ t. spec.made (token_of names hide c.args.name) c.in-Some.kind t c.args.a.token.space (hidden names c.both.new.self c.in_ok-hide.hide.0)) text
+    ∙ ap (spec.made (token_of names hide c.args.name) c.in-Some.kind joined c.args.a.token.space) hides
     ))

@@ -1,4 +1,4 @@
-use Rattle.std.proofs.Common.{◌≡◌, ◌∙◌, ◌≤◌, ◌+◌, rules, arith, length, drop, []}
+use Rattle.std.proofs.Common.{◌∙◌, ◌+◌, rules, arith, drop}
 use Rattle.std.proofs.lemmas.Result.{err_from_is_err_and}
 use Rattle.std.proofs.lemmas.List.{drop_all}
 use Rattle.cr_expand.specs.Held.{watch_of}
@@ -12,16 +12,16 @@ pub returns-in_err-take_part-clause-stops : goal.returns-in_err-take_part-clause
 returns-in_err-take_part-clause-stops c = λ hide. let p = err_from_is_err_and c.from_residual.result c.from_residual.ensures.1 in
     rw (p.1, p.2)
     (pasting_stops (watch_of c.args.names.now c.args.notes.now) c.args.notes.now.seen.items c.loop-i.notes.seen.items c.args.names.now c.loop-i.names c.args.sets.now c.loop-i.sets hide c.args.name c.args.parts.now c.loop-i.i _ c.loop-i.state _
-      c.requires.tables c.requires.name c.requires.parts c.loop-i-test.true c.loop-i.invariant.pasting (c.in_err-take_part.ensures.stops hide (part_texts c.args.names.now c.args.sets.now (drop (c.loop-i.i + 1) c.args.parts.now))))
+    c.requires.tables c.requires.name c.requires.parts c.loop-i-test.true c.loop-i.invariant.pasting (c.in_err-take_part.ensures.stops hide (part_texts c.args.names.now c.args.sets.now (drop (c.loop-i.i + 1) c.args.parts.now))))
 
 pub loop-i-preserved : goal.loop-i-preserved
 loop-i-preserved c = record {
   room = omega (arith, c.in_ok-take_part.ensures.length, c.loop-i.invariant.room);
   same = (c.in_ok-take_part.ensures.same.0 ∙ c.loop-i.invariant.same.0, c.in_ok-take_part.ensures.same.1 ∙ c.loop-i.invariant.same.1);
   pasting = pasting_goes_on (watch_of c.args.names.now c.args.notes.now) (watch_of c.loop-i.names c.loop-i.notes) c.args.notes.now.seen.items c.loop-i.notes.seen.items c.take_part.new.notes.seen.items c.args.names.now c.loop-i.names c.take_part.new.names c.args.sets.now c.loop-i.sets c.take_part.new.sets c.args.name c.args.parts.now c.loop-i.i _ c.loop-i.state c.take_part.new.state
-    c.requires.tables c.requires.name c.requires.parts
-    (watch_kept c.args.names.now c.loop-i.names c.args.notes.now c.loop-i.notes c.loop-i.invariant.pasting.grows c.requires.watched c.loop-i.invariant.same.0 c.loop-i.invariant.same.1)
-    c.loop-i-test.true c.in_ok-take_part.ensures.grows.0 c.in_ok-take_part.ensures.grows.1 c.in_ok-take_part.ensures.tables c.loop-i.invariant.pasting c.in_ok-take_part.ensures.takes;
+      c.requires.tables c.requires.name c.requires.parts
+      (watch_kept c.args.names.now c.loop-i.names c.args.notes.now c.loop-i.notes c.loop-i.invariant.pasting.grows c.requires.watched c.loop-i.invariant.same.0 c.loop-i.invariant.same.1)
+      c.loop-i-test.true c.in_ok-take_part.ensures.grows.0 c.in_ok-take_part.ensures.grows.1 c.in_ok-take_part.ensures.tables c.loop-i.invariant.pasting c.in_ok-take_part.ensures.takes;
 }
 
 pub returns-in_err-put-clause-stops : goal.returns-in_err-put-clause-stops

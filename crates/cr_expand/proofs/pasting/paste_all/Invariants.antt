@@ -7,5 +7,5 @@ abbrev pub invariant-loop-i : goal.invariant-loop-i
 invariant-loop-i l = record {
   room : length l.names ≤ length l.fn.names + l.i;
   same : (l.notes.from ≡ l.fn.notes.from) × (l.notes.to ≡ l.fn.notes.to);
-  pasting : IsPasting (watch_of l.fn.names l.fn.notes) l.fn.notes.seen.items l.notes.seen.items l.fn.names l.names l.fn.sets l.sets l.name l.parts (drop l.i l.parts) l.state
+  pasting : IsPasting (watch_of l.fn.names l.fn.notes) l.fn.notes.seen.items l.notes.seen.items l.fn.names l.names l.fn.sets l.sets l.name l.parts (drop l.i l.parts) l.state;
 }

@@ -1,12 +1,10 @@
-use Rattle.std.proofs.Common.{◌≡◌, ◌∙◌, [], ◌++◌, map, sym, ap, subst, rules, true, false, Bool, not, List, arith, length, ◌<◌, refl}
-use Rattle.std.specs.Prelude.{flat_map, Some, slice_get}
+use Rattle.std.proofs.Common.{◌≡◌, ◌∙◌, [], map, sym, ap, subst, rules, List, length, ◌<◌, refl}
 use Rattle.std.proofs.lemmas.Option.{get_or_from_slice_get, slice_get_within}
-use Rattle.cr_expand.specs.Tokens.{Text, Token, token_of, takes}
+use Rattle.cr_expand.specs.Tokens.{Text, Token, token_of}
 use Rattle.cr_expand.specs.OneToken.{is_string}
 use Rattle.cr_expand.specs.Substitution as spec
 use Rattle.cr_expand.specs.Definition.{text_of}
-use Rattle.cr_expand.specs.Held.{held, all_held, watch_of, noted, hidden}
-use Rattle.cr_base.specs.declared.cause.Role.TheVariants.{Stringized}
+use Rattle.cr_expand.specs.Held.{all_held, watch_of, hidden}
 use Rattle.cr_base.specs.declared.token.PpKind.TheVariants.{Str}
 use Rattle.cr_expand.proofs.Telling.{stops_memory}
 use Rattle.cr_expand.proofs.StringLaws.{any_sets, string_does, string_stops}
@@ -36,9 +34,9 @@ returns-clause-does c = λ hide.
     (ap is_string (sym spelt) ∙ ap is_string (sym c.deref.ensures.value) ∙ sym c.is_string.ensures ∙ c.if-not-is_string.false)
     (c.in_ok-take_all.ensures.seen c.args.sets.now)
     (sym (
-      c.made.ensures.token names (hidden names c.args.sets.now c.empty.result.0) hide
-      ∙ ap (λ t. spec.made (token_of names hide c.args.name) Str t c.args.hash.space (hidden names c.args.sets.now c.empty.result.0)) text
-      ∙ ap (λ h. spec.made (token_of names hide c.args.name) Str (spec.in_quotes (spec.spelling arg)) c.args.hash.space (map (text_of names) h)) c.empty.ensures.1
+    c.made.ensures.token names (hidden names c.args.sets.now c.empty.result.0) hide
+    ∙ ap (λ t. spec.made (token_of names hide c.args.name) Str t c.args.hash.space (hidden names c.args.sets.now c.empty.result.0)) text
+    ∙ ap (λ h. spec.made (token_of names hide c.args.name) Str (spec.in_quotes (spec.spelling arg)) c.args.hash.space (map (text_of names) h)) c.empty.ensures.1
     ))
 
 pub returns-clause-known : goal.returns-clause-known

@@ -1,5 +1,5 @@
-use Rattle.std.proofs.Common.{◌≡◌, ◌<◌, ◌-◌, suc, length, rules, arith, sym, ap, ◌∙◌, get_or}
-use Rattle.cr_expand.specs.HideSets.{set_at, with_number, AreBelow}
+use Rattle.std.proofs.Common.{◌≡◌, ◌<◌, ◌-◌, length, rules, arith, ◌∙◌, get_or}
+use Rattle.cr_expand.specs.HideSets.{set_at}
 use Rattle.cr_expand.proofs.Sets.{name_below, grows_then, set_kept, common_at}
 use Rattle.cr_expand.proofs.hide_sets.HideSets.both.Goals as goal
 
@@ -13,8 +13,8 @@ loop-i-preserved c =
         grows_then c.args.self.now c.loop-i.self c.with_common.new.self c.loop-i.invariant.set.0 c.in_ok-common.ensures.puts.0,
         c.in_ok-common.ensures.puts.1,
         c.in_ok-common.ensures.puts.2
-          ∙ common_at c.in_ok-names.names.items (set_at c.args.self.now c.args.other.0) (set_at c.loop-i.self c.args.other.0) (c.loop-i.i - 1) c.loop-i.i c.index.result.now (set_at c.loop-i.self c.loop-i.common.0)
-              (omega (arith, c.loop-i-test.true)) long here (set_kept c.args.self.now c.loop-i.self c.args.other.0 c.loop-i.invariant.set.0 c.requires.other) c.loop-i.invariant.set.2,
+            ∙ common_at c.in_ok-names.names.items (set_at c.args.self.now c.args.other.0) (set_at c.loop-i.self c.args.other.0) (c.loop-i.i - 1) c.loop-i.i c.index.result.now (set_at c.loop-i.self c.loop-i.common.0)
+            (omega (arith, c.loop-i-test.true)) long here (set_kept c.args.self.now c.loop-i.self c.args.other.0 c.loop-i.invariant.set.0 c.requires.other) c.loop-i.invariant.set.2,
       );
     }
 

@@ -1,5 +1,5 @@
-use Rattle.std.proofs.Common.{◌≡◌, ◌<◌, ◌-◌, suc, length, rules, arith, sym, ap, ◌∙◌, get_or}
-use Rattle.cr_expand.specs.HideSets.{set_at, with_number, AreBelow}
+use Rattle.std.proofs.Common.{◌≡◌, ◌<◌, ◌-◌, length, rules, arith, sym, ap, ◌∙◌, get_or}
+use Rattle.cr_expand.specs.HideSets.{set_at, with_number}
 use Rattle.cr_expand.proofs.Sets.{name_below, grows_then, numbers_at}
 use Rattle.cr_expand.proofs.hide_sets.HideSets.with_all.Goals as goal
 
@@ -13,7 +13,7 @@ loop-i-preserved c =
         grows_then c.args.self.now c.loop-i.self c.with_one_more.new.self c.loop-i.invariant.set.0 c.in_ok-all.ensures.puts.0,
         c.in_ok-all.ensures.puts.1,
         c.in_ok-all.ensures.puts.2 ∙ ap (with_number c.index.result.now) c.loop-i.invariant.set.2
-          ∙ sym (numbers_at (set_at c.args.self.now c.args.set.0) c.in_ok-names.names.items (c.loop-i.i - 1) c.loop-i.i c.index.result.now (omega (arith, c.loop-i-test.true)) long here),
+            ∙ sym (numbers_at (set_at c.args.self.now c.args.set.0) c.in_ok-names.names.items (c.loop-i.i - 1) c.loop-i.i c.index.result.now (omega (arith, c.loop-i-test.true)) long here),
       );
     }
 
