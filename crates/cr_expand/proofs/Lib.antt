@@ -14,3 +14,4 @@ pub mod HiddenNames
 pub mod Pastes
 pub mod PastingLaws
 pub mod Places
+pub mod Joins

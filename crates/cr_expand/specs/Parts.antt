@@ -1,5 +1,5 @@
 -- Items filled in, with names and hide sets by number.
-use Rattle.std.specs.Prelude.{◌≡◌, ℕ, Bool, List, [], ◌∷◌, ◌++◌, map, slice_index_or}
+use Rattle.std.specs.Prelude.{◌≡◌, ℕ, suc, Bool, List, [], ◌∷◌, ◌++◌, map, slice_index_or}
 use Rattle.std.specs.List.{All}
 use Rattle.cr_base.specs.declared.token.PpTok.{PpTok}
 use Rattle.cr_expand.specs.declared.macros.Seen.{Seen}
@@ -101,3 +101,10 @@ pub record IsFilling (w : Watch) (before now : List Seen) (names new : List Text
   pub does : (hide : List Text) (s : List Seen) (rest : List spec.Part) → Does w now s (all_filled_text names sets (token_of names hide name) raw full left) rest
       → Does w before s (all_filled_text names sets (token_of names hide name) raw full done) (part_texts new sets parts ++ rest)
   pub stops : (hide : List Text) (e : ExpandFault) → Stops (all_filled_text names sets (token_of names hide name) raw full left) e → Stops (all_filled_text names sets (token_of names hide name) raw full done) e
+
+-- how many `##` are among the parts
+abbrev pub joins : List Part → ℕ
+joins [] = 0
+joins (part.Joins ∷ ps) = suc (joins ps)
+joins (part.Is h ∷ ps) = joins ps
+joins (part.Placemarker ∷ ps) = joins ps

@@ -1,5 +1,5 @@
 -- Pastes from left to right, with names and hide sets by number.
-use Rattle.std.specs.Prelude.{◌≡◌, Bool, false, List, [], ◌∷◌, ◌++◌, Option, Some, None, option_map}
+use Rattle.std.specs.Prelude.{◌≡◌, ℕ, Bool, true, false, List, [], ◌∷◌, ◌++◌, Option, Some, None, option_map}
 use Rattle.cr_base.specs.declared.token.PpTok.{PpTok}
 use Rattle.cr_expand.specs.declared.macros.Seen.{Seen}
 use Rattle.cr_expand.specs.declared.held.Held.{Held}
@@ -50,3 +50,8 @@ pub record IsPasting (w : Watch) (before now : List Seen) (names new : List Text
       → Does w before s (spec.all_pasted (token_of names hide name) None false (part_texts names sets done)) (all_held new more p.out.items ++ rest)
   pub stops : (hide : List Text) (e : ExpandFault) → Stops (spec.all_pasted (token_of names hide name) (left_text new more p.left) p.pasting (part_texts names sets rest_parts)) e
       → Stops (spec.all_pasted (token_of names hide name) None false (part_texts names sets done)) e
+
+-- one text at most is made where `##` is directly before
+abbrev pub pending : Bool → ℕ
+pending true = 1
+pending false = 0

@@ -8,7 +8,7 @@ ghost use Rattle.cr_expand.specs.HideSets.{Grows, set_at};
 ghost use Rattle.cr_expand.specs.Held.{held, all_args, IsKnown, AreKnown, IsNamed, AreTables, watch_of, Does, Stops};
 ghost use Rattle.cr_expand.specs.declared.held.Held.{Held as TheHeld};
 ghost use Rattle.cr_expand.specs.Items.{item_text, item_texts, IsTokenNamed};
-ghost use Rattle.cr_expand.specs.Parts.{part_text, part_texts, IsPartKnown, IsItemNamed, filled_here, IsMade, Adds, filled_text, all_filled_text};
+ghost use Rattle.cr_expand.specs.Parts.{joins, part_text, part_texts, IsPartKnown, IsItemNamed, filled_here, IsMade, Adds, filled_text, all_filled_text};
 
 use crate::fault::ExpandFault;
 use crate::held::Held;
@@ -71,6 +71,7 @@ fn fill_one(
     ensures length { length names.new ≤ length names.old + 1 }
     ensures distinct { IsDistinct names.new }
     ensures same { (notes.new.from ≡ notes.old.from) × (notes.new.to ≡ notes.old.to) }
+    ensures joins { OnOk result (joins parts.new.items ≤ joins parts.old.items + 1) }
 {
     let made = made_for(alloc, names, sets, notes, name, raw, item)?;
     put_item(parts, raw, full, made, item)?;
@@ -102,6 +103,7 @@ pub fn fill(
     ensures length { length names.new ≤ length names.old + length items.now }
     ensures distinct { IsDistinct names.new }
     ensures same { (notes.new.from ≡ notes.old.from) × (notes.new.to ≡ notes.old.to) }
+    ensures joins { IfOk result (λ parts. joins parts.items ≤ length items.now) }
 {
     let mut parts = Vec::new(alloc);
     for i in 0..items.len() {

@@ -20,6 +20,7 @@ mod pasting;
 mod place;
 mod spelling;
 mod strings;
+mod subst;
 mod words;
 
 pub use cr_base::Role;

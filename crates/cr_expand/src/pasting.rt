@@ -7,8 +7,8 @@ ghost use Rattle.cr_expand.specs.HideSets.{Grows};
 ghost use Rattle.std.specs.List.{All};
 ghost use Rattle.cr_expand.specs.Items.{IsTokenNamed};
 ghost use Rattle.cr_expand.specs.Held.{held, all_held, IsKnown, AreKnown, IsNamed, AreTables, watch_of, Does, Stops};
-ghost use Rattle.cr_expand.specs.Pasting.{left_text, IsLeftKnown, or_none, Takes};
-ghost use Rattle.cr_expand.specs.Parts.{part_text, part_texts, IsPartKnown};
+ghost use Rattle.cr_expand.specs.Pasting.{pending, left_text, IsLeftKnown, or_none, Takes};
+ghost use Rattle.cr_expand.specs.Parts.{joins, part_text, part_texts, IsPartKnown};
 
 use crate::fault::ExpandFault;
 use crate::held::Held;
@@ -96,7 +96,7 @@ fn take_part(
     ensures stops { (hide : List Text) (ps : List spec.Part) → IfErr result (λ e. Stops (spec.all_pasted (token_of names.old hide name) (left_text names.old sets.old state.old.left) state.old.pasting (part_text names.old sets.old part ∷ ps)) e) }
     ensures grows { OnOk result (Grows names.old names.new × Grows sets.old sets.new) }
     ensures tables { OnOk result (AreTables names.new sets.new) }
-    ensures length { length names.new ≤ length names.old + 1 }
+    ensures length { OnOk result (length names.new + pending state.new.pasting ≤ length names.old + pending state.old.pasting + joins (part ∷ [])) }
     ensures same { (notes.new.from ≡ notes.old.from) × (notes.new.to ≡ notes.old.to) }
 {
     match part {
@@ -134,7 +134,7 @@ pub fn paste_all(
     name: PpTok,
     parts: &[Part],
 ) -> Result<Vec<Held>, ExpandFault>
-    requires room { length names.old + length parts.now < 2 ^ 32 - 1 }
+    requires room { length names.old + joins parts.now < 2 ^ 32 - 1 }
     requires tables { AreTables names.old sets.old }
     requires name { IsTokenNamed names.old name }
     requires watched { IsNamed names.old notes.old.from × IsNamed names.old notes.old.to }
@@ -144,7 +144,7 @@ pub fn paste_all(
     ensures known { IfOk result (λ hs. AreKnown names.new sets.new hs.items) }
     ensures grows { OnOk result (Grows names.old names.new × Grows sets.old sets.new) }
     ensures tables { OnOk result (AreTables names.new sets.new) }
-    ensures length { OnOk result (length names.new ≤ length names.old + length parts.now) }
+    ensures length { OnOk result (length names.new ≤ length names.old + joins parts.now) }
     ensures same { OnOk result ((notes.new.from ≡ notes.old.from) × (notes.new.to ≡ notes.old.to)) }
 {
     let mut state = Pasting {

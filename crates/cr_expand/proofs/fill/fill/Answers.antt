@@ -15,6 +15,7 @@ returns-in_err-fill_one-clause-stops c = λ hide. let p = err_from_is_err_and c.
 pub loop-i-preserved : goal.loop-i-preserved
 loop-i-preserved c = record {
   room = omega (arith, c.in_ok-fill_one.ensures.length, c.loop-i.invariant.room);
+  joins = omega (arith, c.in_ok-fill_one.ensures.joins, c.loop-i.invariant.joins);
   same = (c.in_ok-fill_one.ensures.same.0 ∙ c.loop-i.invariant.same.0, c.in_ok-fill_one.ensures.same.1 ∙ c.loop-i.invariant.same.1);
   filling = filling_goes_on (watch_of c.args.names.now c.args.notes.now) (watch_of c.loop-i.names c.loop-i.notes) c.args.notes.now.seen.items c.loop-i.notes.seen.items c.fill_one.new.notes.seen.items c.args.names.now c.loop-i.names c.fill_one.new.names c.args.sets.now c.args.name (map (λ v. v.items) c.args.raw.now) (map (λ v. v.items) c.args.full.now) c.args.items.now c.loop-i.i _ c.loop-i.parts.items c.fill_one.new.parts.items
       c.requires.tables c.requires.name c.requires.named c.requires.raw c.requires.full

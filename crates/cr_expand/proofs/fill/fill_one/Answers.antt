@@ -3,6 +3,9 @@ use Rattle.std.proofs.lemmas.Result.{err_from_is_err_and}
 use Rattle.cr_expand.specs.Tokens.{token_of}
 use Rattle.cr_expand.specs.Held.{watch_of}
 use Rattle.cr_expand.specs.Parts.{filled_here}
+use Rattle.std.proofs.Common.{ap, arith, ◌+◌, ◌≤◌}
+use Rattle.cr_expand.specs.Parts.{joins}
+use Rattle.cr_expand.proofs.Joins.{joins_append, one_join}
 use Rattle.cr_expand.proofs.Fills.{fill_does, fill_known}
 use Rattle.cr_expand.proofs.fill.fill_one.Goals as goal
 
@@ -19,3 +22,10 @@ returns-clause-adds c = λ hide. (
 pub returns-in_err-made-clause-stops : goal.returns-in_err-made-clause-stops
 returns-in_err-made-clause-stops c = λ hide. let p = err_from_is_err_and c.from_residual.result c.from_residual.ensures.1 in
     rw (p.1, p.2) (c.in_err-made.ensures.stops hide (map (λ v. v.items) c.args.full.now))
+
+pub returns-clause-joins : goal.returns-clause-joins
+returns-clause-joins c =
+    let e = ap joins c.in_ok-put_item.ensures in
+    let f = joins_append c.args.parts.now.items (filled_here (map (λ v. v.items) c.args.raw.now) (map (λ v. v.items) c.args.full.now) c.in_ok-made.made c.args.item) in
+    let g = one_join (map (λ v. v.items) c.args.raw.now) (map (λ v. v.items) c.args.full.now) c.in_ok-made.made c.args.item in
+    omega (arith, e, f, g)

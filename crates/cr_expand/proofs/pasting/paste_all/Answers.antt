@@ -1,7 +1,9 @@
-use Rattle.std.proofs.Common.{◌∙◌, ◌+◌, rules, arith, drop}
+use Rattle.std.proofs.Common.{length, ◌∙◌, ◌+◌, rules, arith, drop}
 use Rattle.std.proofs.lemmas.Result.{err_from_is_err_and}
 use Rattle.std.proofs.lemmas.List.{drop_all}
 use Rattle.cr_expand.specs.Held.{watch_of}
+use Rattle.cr_expand.proofs.Joins.{joins_room}
+use Rattle.cr_expand.specs.Pasting.{pending}
 use Rattle.cr_expand.proofs.Kept.{watch_kept}
 use Rattle.cr_expand.proofs.Telling.{stops_memory}
 use Rattle.cr_expand.proofs.PastingLaws.{pasting_goes_on, pasting_stops, pasting_ends, pasting_known}
@@ -16,7 +18,7 @@ returns-in_err-take_part-clause-stops c = λ hide. let p = err_from_is_err_and c
 
 pub loop-i-preserved : goal.loop-i-preserved
 loop-i-preserved c = record {
-  room = omega (arith, c.in_ok-take_part.ensures.length, c.loop-i.invariant.room);
+  room = joins_room c.args.parts.now c.loop-i.i _ (length c.args.names.now) (length c.loop-i.names) (length c.take_part.new.names) (pending c.loop-i.state.pasting) (pending c.take_part.new.state.pasting) c.loop-i-test.true c.in_ok-take_part.ensures.length c.loop-i.invariant.room;
   same = (c.in_ok-take_part.ensures.same.0 ∙ c.loop-i.invariant.same.0, c.in_ok-take_part.ensures.same.1 ∙ c.loop-i.invariant.same.1);
   pasting = pasting_goes_on (watch_of c.args.names.now c.args.notes.now) (watch_of c.loop-i.names c.loop-i.notes) c.args.notes.now.seen.items c.loop-i.notes.seen.items c.take_part.new.notes.seen.items c.args.names.now c.loop-i.names c.take_part.new.names c.args.sets.now c.loop-i.sets c.take_part.new.sets c.args.name c.args.parts.now c.loop-i.i _ c.loop-i.state c.take_part.new.state
       c.requires.tables c.requires.name c.requires.parts
