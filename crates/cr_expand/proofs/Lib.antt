@@ -15,3 +15,4 @@ pub mod Pastes
 pub mod PastingLaws
 pub mod Places
 pub mod Joins
+pub mod Marks
