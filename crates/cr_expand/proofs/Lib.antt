@@ -16,3 +16,4 @@ pub mod PastingLaws
 pub mod Places
 pub mod Joins
 pub mod Marks
+pub mod Substitutes

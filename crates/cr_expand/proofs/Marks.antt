@@ -1,5 +1,5 @@
 -- Which arguments are used.
-use Rattle.std.proofs.Common.{◌≡◌, ℕ, ◌+◌, ◌<◌, Bool, true, false, List, [], ◌∷◌, length, drop, get_or, refl, sym, ap, ◌∙◌}
+use Rattle.std.proofs.Common.{◌≡◌, ℕ, ◌+◌, ◌<◌, Bool, true, false, List, [], length, drop, get_or, refl, sym, ap, ◌∙◌}
 use Rattle.std.proofs.Common.{◌++◌, append_assoc, append-nil}
 use Rattle.std.specs.Prelude.{◌||◌, if◌then◌else◌, flat_map}
 use Rattle.cr_base.specs.declared.cause.Role.TheVariants.{Dropped}
@@ -45,8 +45,8 @@ dropped_more w w1 names sets items raw i arg used s1 s2 whole h a e u k l =
     let more : List Event = spec.dropped (item_texts names items) (i + 1) (all_args names sets (drop (i + 1) raw)) in
     let one : List Event = if list_any (spec.is_use i) (item_texts names items) then [] else flat_map (takes Dropped) (all_held names sets (get_or raw i [])) in
     ap (λ s. s ++ noted w more) (k ∙ ap (λ x. s1 ++ noted x (if used then [] else flat_map (takes Dropped) (all_held names sets arg))) e
-      ∙ ap (λ x. s1 ++ noted w (if x then [] else flat_map (takes Dropped) (all_held names sets arg))) u
-      ∙ ap (λ x. s1 ++ noted w (if list_any (spec.is_use i) (item_texts names items) then [] else flat_map (takes Dropped) (all_held names sets x))) a)
+    ∙ ap (λ x. s1 ++ noted w (if x then [] else flat_map (takes Dropped) (all_held names sets arg))) u
+    ∙ ap (λ x. s1 ++ noted w (if list_any (spec.is_use i) (item_texts names items) then [] else flat_map (takes Dropped) (all_held names sets x))) a)
     ∙ append_assoc s1 (noted w one) (noted w more)
     ∙ ap (λ x. s1 ++ x) (sym (noted_append w one more))
     ∙ ap (λ x. s1 ++ noted w (spec.dropped (item_texts names items) i (all_args names sets x))) (sym (cut_at raw i [] h))

@@ -3,7 +3,7 @@ use Rattle.std.proofs.lemmas.Result.{err_from_is_err_and}
 use Rattle.cr_expand.specs.Tokens.{token_of}
 use Rattle.cr_expand.specs.Held.{watch_of}
 use Rattle.cr_expand.specs.Parts.{filled_here}
-use Rattle.std.proofs.Common.{ap, arith, ◌+◌, ◌≤◌}
+use Rattle.std.proofs.Common.{ap, arith}
 use Rattle.cr_expand.specs.Parts.{joins}
 use Rattle.cr_expand.proofs.Joins.{joins_append, one_join}
 use Rattle.cr_expand.proofs.Fills.{fill_does, fill_known}

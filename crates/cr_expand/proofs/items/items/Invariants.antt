@@ -13,5 +13,5 @@ invariant-loop-i l = record {
   count : length l.items.items ≤ l.i;
   named : All (IsItemNamed l.names) l.items.items;
   items : item_texts l.names l.items.items ++ spec.items (macro_text l.names l.m) l.beside l.skip (tokens_of l.names (drop l.i l.body))
-    ≡ spec.body_items (macro_text l.names l.m)
+      ≡ spec.body_items (macro_text l.names l.m);
 }

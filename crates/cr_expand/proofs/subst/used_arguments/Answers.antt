@@ -1,4 +1,4 @@
-use Rattle.std.proofs.Common.{◌≡◌, ◌∙◌, arith, length, drop, false, vec_len, ◌<◌, subst, sym}
+use Rattle.std.proofs.Common.{◌∙◌, arith, drop}
 use Rattle.std.proofs.lemmas.List.{drop_all}
 use Rattle.cr_expand.proofs.Marks.{used_more, used_all}
 use Rattle.cr_expand.proofs.subst.used_arguments.Goals as goal

@@ -10,4 +10,4 @@ abbrev pub invariant-loop-i : goal.invariant-loop-i
 invariant-loop-i l =
     (vec_len l.used ≡ l.count)
     × ((names : List Text) (n : ℕ) → n < l.count
-      → (slice_index_or l.used.items n false || list_any (spec.is_use n) (item_texts names (drop l.i l.items))) ≡ list_any (spec.is_use n) (item_texts names l.items))
+    → (slice_index_or l.used.items n false || list_any (spec.is_use n) (item_texts names (drop l.i l.items))) ≡ list_any (spec.is_use n) (item_texts names l.items))
