@@ -17,3 +17,4 @@ pub mod Places
 pub mod Joins
 pub mod Marks
 pub mod Substitutes
+pub mod Headings

@@ -10,4 +10,5 @@ pub mod Items
 pub mod Parts
 pub mod Pasting
 pub mod Placing
+pub mod Heading
 pub mod Laws

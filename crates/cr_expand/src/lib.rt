@@ -6,6 +6,7 @@ ghost use Rattle.cr_expand.specs.Laws.{FollowsTheRules};
 mod definition;
 mod fault;
 mod fill;
+mod head;
 mod held;
 mod hide_sets;
 mod items;
