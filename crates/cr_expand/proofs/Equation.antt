@@ -5,10 +5,10 @@ use Rattle.std.specs.List.{list_any, AllByRecursion}
 use Rattle.std.proofs.lemmas.Bool.Decides.{nat_tests}
 use Rattle.cr_base.specs.declared.token.PpKind.{PpKind}
 use Rattle.cr_base.specs.declared.cause.Role.TheVariants.{MacroName}
-use Rattle.cr_expand.specs.Tokens.{Text, Token, MacroText, Rule, Over, OpenCall, ArgCount, Answer, Gave, Stopped, Work, after, then_do, ◌>>=◌, give, note, pay, takes, both, with_name, is_mark, is_ident, has}
+use Rattle.cr_expand.specs.Tokens.{Text, Token, MacroText, Rule, Over, Answer, Gave, Stopped, Work, after, then_do, ◌>>=◌, give, note, pay, takes, both, with_name, is_mark, is_ident, has}
 use Rattle.cr_expand.specs.Substitution.{Item, Args, body_items, is_full, made}
 use Rattle.cr_expand.specs.Substitution
-use Rattle.cr_expand.specs.Expansion.{Table, Use, Keep, Predefined, Object, Call, Wrong, predefined, found_after, to_close, into_first, parted, closed_by, counted_call, closed_call, use_by_params, use_of_macro, use_of_name, put_in, arguments, expanded, expanded_if, call_of, use_of, by_use, rules, expand_within, expand}
+use Rattle.cr_expand.specs.Expansion.{Table, Use, Keep, Predefined, Object, Call, Wrong, predefined, found_after, to_close, into_first, parted, closed_by, counted_call, closed_call, use_by_params, use_of_macro, use_of_name, arguments, expanded, expanded_if, call_of, use_of, by_use, rules, expand_within, expand}
 use Rattle.cr_expand.proofs.Work.{Leaves, Lessens, lessens_then, lessens_give, lessens_note, lessens_fail, lessens_pay, lessens_subst, lessens_expanded, lessens_expanded_if}
 
 -- A use of a list's head takes its lists from the rest.

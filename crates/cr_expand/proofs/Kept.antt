@@ -1,16 +1,18 @@
 -- What is known stays as it was when the tables grow.
-use Rattle.std.proofs.Common.{◌≡◌, ℕ, ◌+◌, ◌<◌, ◌≤◌, List, [], ◌∷◌, ◌++◌, length, map, get_or, refl, sym, ap, ◌∙◌, subst, arith, length-append}
+use Rattle.std.proofs.Common.{◌≡◌, ℕ, ◌<◌, ◌≤◌, List, [], ◌∷◌, ◌++◌, length, map, get_or, refl, sym, ap, ◌∙◌, arith, length-append, append-nil, Bool, true, false}
+use Rattle.std.specs.Prelude.{if◌then◌else◌}
+use Rattle.cr_base.specs.NameTable.{IsDistinct}
 use Rattle.std.specs.List.{All}
 use Rattle.std.proofs.lemmas.List.{get_or_append_left}
-use Rattle.std.proofs.lemmas.List.Elements.{All-head, All-tail, All-get_or, All-weaker, All-append}
+use Rattle.std.proofs.lemmas.List.Elements.{All-head, All-tail, All-get_or, All-weaker}
 use Rattle.cr_base.specs.declared.token.Name.{Name}
 use Rattle.cr_base.specs.declared.token.PpTok.{PpTok}
 use Rattle.cr_expand.specs.declared.held.Held.{Held}
-use Rattle.cr_expand.specs.Tokens.{Text, Token, token_of, tokens_of}
+use Rattle.cr_expand.specs.Tokens.{Text, token_of}
 use Rattle.cr_expand.specs.Definition.{text_of}
 use Rattle.cr_expand.specs.HideSets.{Sets, set_at, Grows}
-use Rattle.cr_expand.specs.Held.{hidden, held, all_held, all_args, IsNamed, IsKnown, AreKnown, AreTables}
-use Rattle.cr_expand.specs.Items.{IsTokenNamed}
+use Rattle.cr_expand.specs.declared.notes.Notes.{Notes}
+use Rattle.cr_expand.specs.Held.{watch_of, hidden, held, all_held, all_args, IsNamed, IsKnown, AreKnown, AreTables}
 
 pub longer : {A : Type 0} (xs ys : List A) → Grows xs ys → length xs ≤ length ys
 longer xs ys g = let a = ap length g.1 in let b = length-append xs g.0 in omega (arith, a, b)
@@ -21,7 +23,7 @@ name_kept names new n g h = ap (λ l. get_or l n.0 []) g.1 ∙ get_or_append_lef
 pub named_later : (names new : List Text) (n : Name) → Grows names new → IsNamed names n → IsNamed new n
 named_later names new n g h = let l = longer names new g in omega (arith, h, l)
 
-names_kept : (names new : List Text) (ns : List Name) → Grows names new → All (IsNamed names) ns → map (text_of new) ns ≡ map (text_of names) ns
+pub names_kept : (names new : List Text) (ns : List Name) → Grows names new → All (IsNamed names) ns → map (text_of new) ns ≡ map (text_of names) ns
 names_kept names new [] g h = refl
 names_kept names new (n ∷ ns) g h =
     ap (λ t. t ∷ map (text_of new) ns) (name_kept names new n g (All-head (IsNamed names) n ns h))
@@ -65,3 +67,22 @@ args_known_later names new sets more args g k l = All-weaker (AreKnown names set
 
 pub sets_named_later : (names new : List Text) (sets : Sets) → Grows names new → All (All (IsNamed names)) sets → All (All (IsNamed new)) sets
 sets_named_later names new sets g l = All-weaker (All (IsNamed names)) (All (IsNamed new)) (λ ns. All-weaker (IsNamed names) (IsNamed new) (λ n. named_later names new n g) ns) sets l
+
+pub watch_kept : (names new : List Text) (a b : Notes) → Grows names new → IsNamed names a.from × IsNamed names a.to → b.from ≡ a.from → b.to ≡ a.to → watch_of new b ≡ watch_of names a
+watch_kept names new a b g n e f =
+    ap {A = Text} (λ x. record { from = x; to = text_of new b.to }) (ap (text_of new) e ∙ name_kept names new a.from g n.0)
+    ∙ ap {A = Text} (λ x. record { from = text_of names a.from; to = x }) (ap (text_of new) f ∙ name_kept names new a.to g n.1)
+
+pub interned_grows : (b : Bool) (names new : List Text) (t : Text) → new ≡ (if b then names else names ++ t ∷ []) → Grows names new
+interned_grows true names new t e = ([], e ∙ sym (append-nil names))
+interned_grows false names new t e = (t ∷ [], e)
+
+pub tables_later : (names new : List Text) (sets more : Sets) → AreTables names sets → Grows names new → Grows sets more → IsDistinct new → All (All (IsNamed new)) more → AreTables new more
+tables_later names new sets more t g k d n =
+    let l = longer sets more k in
+    record {
+      distinct = d;
+      named = n;
+      first = ap (λ s. get_or s 0 []) k.1 ∙ get_or_append_left sets k.0 [] 0 t.some ∙ t.first;
+      some = omega (arith, l, t.some);
+    }

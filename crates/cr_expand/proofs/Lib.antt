@@ -8,3 +8,13 @@ pub mod Numbers
 pub mod Bodies
 pub mod Telling
 pub mod Kept
+pub mod StringLaws
+pub mod Fills
+pub mod HiddenNames
+pub mod Pastes
+pub mod PastingLaws
+pub mod Places
+pub mod Joins
+pub mod Marks
+pub mod Substitutes
+pub mod Headings

@@ -1,5 +1,5 @@
 -- The pieces of a parameter list.
-use Rattle.std.proofs.Common.{◌≡◌, ℕ, Bool, true, false, List, [], ◌∷◌, length, refl, Option, Some, None, true≢false, sym, ap, ◌∙◌}
+use Rattle.std.proofs.Common.{◌≡◌, ℕ, Bool, true, false, List, [], ◌∷◌, length, refl, Some, None, true≢false}
 use Rattle.std.specs.Prelude.{◌==◌, codes, option_map, if◌then◌else◌}
 use Rattle.std.specs.List.{slice_split}
 use Rattle.cr_base.specs.declared.token.Name.{Name}

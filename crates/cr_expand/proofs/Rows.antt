@@ -1,5 +1,5 @@
 -- Worked examples, computed: those of C11 6.10.3.5 and of this project's own rules.
-use Rattle.std.specs.Prelude.{◌≡◌, ℕ, suc, zero, ◌+◌, ◌-◌, Bool, true, false, if◌then◌else◌, List, [], ◌∷◌, ◌++◌, map, length, take, drop, codes, bytes_eq, Option, Some, None, refl, flat_map}
+use Rattle.std.specs.Prelude.{◌≡◌, ℕ, suc, zero, ◌+◌, ◌-◌, Bool, true, false, if◌then◌else◌, List, [], ◌∷◌, ◌++◌, map, length, take, codes, bytes_eq, Option, Some, None, refl, flat_map}
 use Rattle.cr_base.specs.declared.token.PpKind.{PpKind}
 use Rattle.cr_base.specs.declared.token.Place.{Place}
 use Rattle.cr_base.specs.declared.token.Origin.TheVariants.{At}
@@ -23,8 +23,8 @@ cut space (suc skip) offset (b ∷ bs) = cut space skip (suc offset) bs
 cut space zero offset (b ∷ bs) =
     if is_white b then cut true zero (suc offset) bs
     else elim (longest (length (b ∷ bs)) (b ∷ bs)) [
-      None ↦ []
-    | Some (n, kind) ↦ record {
+      | None ↦ []
+      | Some (n, kind) ↦ record {
         kind = kind;
         text = take n (b ∷ bs);
         origin = At (at offset);

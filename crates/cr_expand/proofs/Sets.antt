@@ -5,7 +5,10 @@ use Rattle.std.proofs.lemmas.List.{get_or_append_left, get_or_push}
 use Rattle.std.proofs.lemmas.Option.{get_or_from_slice_get}
 use Rattle.cr_base.specs.declared.token.Name.{Name}
 use Rattle.cr_expand.specs.declared.hide_sets.Node.{Node}
-use Rattle.cr_expand.specs.HideSets.{Sets, set_at, grown, sets_of, AreEarlierFrom, AreEarlier, Grows, Puts, with_number}
+use Rattle.cr_expand.specs.HideSets.{Sets, set_at, grown, sets_of, AreEarlierFrom, AreEarlier, Grows, Puts, with_number, with_numbers, in_both, AreBelow}
+use Rattle.std.proofs.Common.{drop, drop-cons}
+use Rattle.std.specs.List.{All}
+use Rattle.std.proofs.lemmas.List.Elements.{All-push, All-cons, All-nil, All-head, All-tail, All-get_or}
 use Rattle.cr_expand.specs.Definition.{has_name}
 
 pub earlier_push : (n : ℕ) (xs : List Node) (y : Node) → AreEarlierFrom n xs → y.parent.0 < n + length xs → AreEarlierFrom n (xs ++ y ∷ [])
@@ -82,13 +85,12 @@ node_puts old nodes new v place e g h p at within =
     let got : get_or new place v ≡ v = get_or_from_slice_get new place v v at in
     let here : (place + 1) - 1 ≡ place = omega arith in
     let g2 : Grows old (sets_of new) = subst (λ s. Grows s (sets_of new)) e g in
-    let node : get_or new ((place + 1) - 1) v ≡ v = ap (λ n. get_or new n v) here ∙ got in
-    (
+    let node : get_or new ((place + 1) - 1) v ≡ v = ap (λ n. get_or new n v) here ∙ got in (
       g2,
       omega (arith, length_sets new),
       set_of_node new (place + 1) v h (omega arith) (omega arith)
-      ∙ ap (λ n. n.name ∷ set_at (sets_of new) n.parent.0) node
-      ∙ ap (λ s. v.name ∷ s) (set_kept old (sets_of new) v.parent.0 g2 p),
+          ∙ ap (λ n. n.name ∷ set_at (sets_of new) n.parent.0) node
+          ∙ ap (λ s. v.name ∷ s) (set_kept old (sets_of new) v.parent.0 g2 p),
     )
 
 pub puts_new : (old new : Sets) (name : Name) (set n : ℕ) → has_name (set_at old set) name ≡ false → Puts old (name ∷ set_at old set) new n → Puts old (with_number name (set_at old set)) new n
@@ -106,3 +108,36 @@ node_here old nodes at d v h k l e = (
   subst (λ s. set_at s at ≡ d.name ∷ set_at s d.parent.0) v (set_of_node nodes at d h k l ∙ ap (λ n. n.name ∷ set_at (sets_of nodes) n.parent.0) e),
   (let p = earlier_at 1 nodes (at - 1) d h (omega arith) in let q : d.parent.0 ≡ (get_or nodes (at - 1) d).parent.0 = ap (λ n. n.parent.0) (sym e) in omega (arith, p, q)),
 )
+
+pub set_below : (bound : ℕ) (sets : Sets) (i : ℕ) → All (All (λ n. n.0 < bound)) sets → All (λ n. n.0 < bound) (set_at sets i)
+set_below bound [] i h = All-nil (λ n. n.0 < bound)
+set_below bound (s ∷ ss) zero h = All-head (All (λ n. n.0 < bound)) s ss h
+set_below bound (s ∷ ss) (suc i) h = set_below bound ss i (All-tail (All (λ n. n.0 < bound)) s ss h)
+
+below_more : (bound : ℕ) (old : Sets) (name : Name) (set : ℕ) → name.0 < bound → AreBelow bound old → AreBelow bound (old ++ (name ∷ set_at old set) ∷ [])
+below_more bound old name set h k =
+    record { at = All-push (All (λ n. n.0 < bound)) old (name ∷ set_at old set) k.at (All-cons (λ n. n.0 < bound) name (set_at old set) h (set_below bound old set k.at)) }
+
+pub below_keys : (b : Bool) (bound : ℕ) (nodes new : List Node) (v : Node) → new ≡ (if b then nodes else nodes ++ v ∷ []) → v.name.0 < bound → AreBelow bound (sets_of nodes) → AreBelow bound (sets_of new)
+below_keys true bound nodes new v e h k = subst (λ l. AreBelow bound (sets_of l)) (sym e) k
+below_keys false bound nodes new v e h k =
+    subst (λ l. AreBelow bound (sets_of l)) (sym e) (subst (AreBelow bound) (sym (fold_append ([] ∷ []) nodes (v ∷ []))) (below_more bound (sets_of nodes) v.name v.parent.0 h k))
+
+-- a name of a set is below
+pub name_below : (bound : ℕ) (sets : Sets) (set : ℕ) (names : List Name) (i : ℕ) (n : Name) → AreBelow bound sets → names ≡ set_at sets set → i < length names → n ≡ get_or names i n → n.0 < bound
+name_below bound sets set names i n h e l k =
+    subst (λ x. x.0 < bound) (sym k) (All-get_or (λ x. x.0 < bound) names i n l (subst (All (λ x. x.0 < bound)) (sym e) (set_below bound sets set h.at)))
+
+pub numbers_at : (base names : List Name) (j i : ℕ) (n : Name) → i ≡ suc j → j < length names → n ≡ get_or names j n → with_numbers base (drop j names) ≡ with_number n (with_numbers base (drop i names))
+numbers_at base names j i n e h k =
+    ap (with_numbers base) (drop-cons names j n h)
+    ∙ ap (λ x. with_number x (with_numbers base (drop (suc j) names))) (sym k)
+    ∙ ap (λ x. with_number n (with_numbers base (drop x names))) (sym e)
+
+pub common_at : (names bs bs1 : List Name) (j i : ℕ) (n : Name) (common : List Name) → i ≡ suc j → j < length names → n ≡ get_or names j n → bs1 ≡ bs → common ≡ in_both (drop i names) bs
+    → (if has_name bs1 n then with_number n common else common) ≡ in_both (drop j names) bs
+common_at names bs bs1 j i n common e h k s c =
+    ap (λ x. if has_name x n then with_number n common else common) s
+    ∙ ap (λ x. if has_name bs n then with_number n x else x) (c ∙ ap (λ x. in_both (drop x names) bs) e)
+    ∙ ap (λ x. if has_name bs x then with_number x (in_both (drop (suc j) names) bs) else in_both (drop (suc j) names) bs) k
+    ∙ sym (ap (λ x. in_both x bs) (drop-cons names j n h))

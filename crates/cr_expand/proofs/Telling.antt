@@ -1,5 +1,5 @@
 -- Work and then more work.
-use Rattle.std.proofs.Common.{◌≡◌, ℕ, List, [], ◌∷◌, ◌++◌, refl, sym, ap, ◌∙◌, append_assoc, append-nil, inl, inr}
+use Rattle.std.proofs.Common.{◌≡◌, ℕ, List, ◌++◌, refl, sym, ap, ◌∙◌, append_assoc, append-nil, inl, inr}
 use Rattle.cr_expand.specs.declared.macros.Seen.{Seen}
 use Rattle.cr_expand.specs.declared.fault.ExpandFault.{ExpandFault}
 use Rattle.cr_expand.specs.declared.fault.ExpandFault.TheVariants as fault
@@ -18,9 +18,9 @@ tells_after w s0 s1 s2 events (Stopped cause) v l e h = h
 pub tells_then : {A B : Type 0} (w : Watch) (s0 s1 s2 : List Seen) (r : Answer A) (f : A → Work B) (a : A) (b : B) (l m : ℕ) → Tells w s0 s1 r a l → Tells w s1 s2 (f a l) b m → Tells w s0 s2 (then_do r f) b m
 tells_then w s0 s1 s2 (Gave x left events) f a b l m h k =
     subst2 w s0 s1 s2 events f a x b l left m h.0 h.1 h.2 k where
-  subst2 : {A B : Type 0} (w : Watch) (s0 s1 s2 : List Seen) (events : List Event) (f : A → Work B) (a x : A) (b : B) (l left m : ℕ) → x ≡ a → left ≡ l → s1 ≡ s0 ++ noted w events → Tells w s1 s2 (f a l) b m → Tells w s0 s2 (after events (f x left)) b m
-  subst2 w s0 s1 s2 events f a x b l left m e g n k =
-      tells_after w s0 s1 s2 events (f x left) b m n (rw (e, g) k)
+      subst2 : {A B : Type 0} (w : Watch) (s0 s1 s2 : List Seen) (events : List Event) (f : A → Work B) (a x : A) (b : B) (l left m : ℕ) → x ≡ a → left ≡ l → s1 ≡ s0 ++ noted w events → Tells w s1 s2 (f a l) b m → Tells w s0 s2 (after events (f x left)) b m
+      subst2 w s0 s1 s2 events f a x b l left m e g n k =
+          tells_after w s0 s1 s2 events (f x left) b m n (rw (e, g) k)
 tells_then w s0 s1 s2 (Stopped cause) f a b l m h k = absurd h
 
 faults_after : {A : Type 0} (events : List Event) (r : Answer A) (e : ExpandFault) → Faults r e → Faults (after events r) e

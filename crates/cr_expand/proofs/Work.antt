@@ -3,10 +3,9 @@ use Rattle.std.proofs.Common.{ℕ, ◌+◌, ◌-◌, ◌≤◌, Bool, true, fals
 use Rattle.std.specs.Prelude.{nat_lt, slice_index_or}
 use Rattle.std.specs.List.{list_any}
 use Rattle.cr_base.specs.declared.token.PpKind.{PpKind}
-use Rattle.cr_base.specs.declared.token.PpKind.TheVariants.{Str}
-use Rattle.cr_base.specs.declared.cause.Role.TheVariants.{MacroName, Pasted}
+use Rattle.cr_base.specs.declared.cause.Role.TheVariants.{MacroName}
 use Rattle.cr_expand.specs.OneToken.{one_token, is_string}
-use Rattle.cr_expand.specs.Tokens.{Text, Token, MacroText, Event, Rule, Cause, BadPaste, Over, Answer, Gave, Stopped, Work, after, then_do, ◌>>=◌, give, fail, note, pay, takes, both}
+use Rattle.cr_expand.specs.Tokens.{Text, Token, MacroText, Event, Rule, Cause, Over, Answer, Gave, Stopped, Work, after, then_do, ◌>>=◌, give, fail, note, pay, takes}
 use Rattle.cr_expand.specs.Substitution.{Item, Stays, Spelt, Bare, Full, CommaRest, Paste, Args, Part, Is, Placemarker, Joins, or_none, paste_after, filled, all_filled, string_of, spelling, in_quotes, made, pasted_as, paste, all_pasted, items, body_items, is_full, with_space, dropped, placed}
 use Rattle.cr_expand.specs.Substitution
 use Rattle.cr_expand.specs.Expansion.{expanded, expanded_if}

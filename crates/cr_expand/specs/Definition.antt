@@ -1,9 +1,8 @@
 -- What a `define` line defines (C11 6.10.3, 6.10.8p4).
-use Rattle.std.specs.Prelude.{ℕ, ◌+◌, ◌-◌, Bool, true, false, not, ◌&&◌, ◌||◌, ◌==◌, ◌≡◌, if◌then◌else◌, List, [], ◌∷◌, ◌++◌, length, take, drop, fold, position, bytes_eq, codes, slice_get, slice_index_or, Option, Some, None, is_some, map, option_map}
+use Rattle.std.specs.Prelude.{ℕ, ◌+◌, ◌-◌, Bool, true, false, not, ◌&&◌, ◌||◌, ◌==◌, if◌then◌else◌, List, [], ◌∷◌, ◌++◌, length, take, drop, fold, position, bytes_eq, codes, slice_get, slice_index_or, Option, Some, None, is_some}
 use Rattle.std.specs.List.{list_any, slice_split}
 use Rattle.cr_base.specs.declared.token.Name.{Name}
 use Rattle.cr_base.specs.declared.token.PpTok.{PpTok}
-use Rattle.cr_base.specs.declared.token.Place.{Place}
 use Rattle.cr_base.specs.declared.token.Origin.{Origin}
 use Rattle.cr_base.specs.declared.token.Origin.TheVariants.{At, Made}
 use Rattle.cr_expand.specs.Tokens.{Text, is_ident, is_punct}

@@ -1,9 +1,7 @@
 -- What the machine's tokens, with names and hide sets by number, stand for.
-use Rattle.std.specs.Prelude.{◌≡◌, ℕ, ◌<◌, ◌≤◌, Bool, ◌||◌, if◌then◌else◌, List, [], ◌∷◌, ◌++◌, length, map, flat_map, bytes_eq, slice_index_or, Option, Some, None, ◌⊎◌}
+use Rattle.std.specs.Prelude.{◌≡◌, ℕ, ◌<◌, ◌||◌, if◌then◌else◌, List, [], ◌∷◌, ◌++◌, length, map, flat_map, bytes_eq, ◌⊎◌}
 use Rattle.std.specs.List.{All}
 use Rattle.cr_base.specs.declared.token.Name.{Name}
-use Rattle.cr_base.specs.declared.token.PpTok.{PpTok}
-use Rattle.cr_base.specs.declared.token.Place.{Place}
 use Rattle.cr_base.specs.NameTable.{IsDistinct}
 use Rattle.cr_expand.specs.declared.macros.Seen.{Seen}
 use Rattle.cr_expand.specs.declared.held.Held.{Held}

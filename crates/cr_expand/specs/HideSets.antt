@@ -1,5 +1,6 @@
 -- Hide sets by number: each set but the first, which is empty, is an earlier one with one more name.
-use Rattle.std.specs.Prelude.{◌≡◌, ℕ, suc, ◌+◌, ◌≤◌, ◌<◌, Bool, if◌then◌else◌, List, [], ◌∷◌, ◌++◌, length, fold, slice_index_or}
+use Rattle.std.specs.Prelude.{◌≡◌, ℕ, suc, ◌<◌, if◌then◌else◌, List, [], ◌∷◌, ◌++◌, length, fold, slice_index_or}
+use Rattle.std.specs.List.{All}
 use Rattle.cr_base.specs.declared.token.Name.{Name}
 use Rattle.cr_expand.specs.Definition.{has_name}
 use Rattle.cr_expand.specs.declared.hide_sets.Node.{Node}
@@ -48,3 +49,7 @@ Grows {A} old new = (more : List A) × (new ≡ old ++ more)
 -- This set stands at this number, and the sets before it are kept.
 abbrev pub Puts : Sets → List Name → Sets → ℕ → Type 0
 Puts old set new n = Grows old new × (n < length new) × (set_at new n ≡ set)
+
+-- All names of the sets are below a bound.
+pub record AreBelow (bound : ℕ) (sets : Sets) : Type 0 where
+  pub at : All (All (λ n. n.0 < bound)) sets

@@ -1,5 +1,5 @@
 -- Items of a body, with names by number.
-use Rattle.std.specs.Prelude.{◌≡◌, ℕ, ◌<◌, ◌≤◌, ◌==◌, ◌&&◌, Bool, if◌then◌else◌, List, [], ◌∷◌, length, map, Option, Some, None}
+use Rattle.std.specs.Prelude.{◌≡◌, ℕ, ◌==◌, Bool, false, if◌then◌else◌, List, [], ◌∷◌, length, map, Option, Some, None}
 use Rattle.std.specs.List.{All}
 use Rattle.cr_base.specs.declared.token.Name.{Name}
 use Rattle.cr_base.specs.declared.token.PpTok.{PpTok}
@@ -72,3 +72,12 @@ with_text names (Some (t, i)) = Some (token_of names [] t, i)
 -- an item with its text, and how many more tokens it takes
 abbrev pub found_text : List Text → Item × ℕ → spec.Item × ℕ
 found_text names (i, n) = (item_text names i, n)
+
+-- the number is this one
+abbrev pub is_number : ℕ → Option ℕ → Bool
+is_number n None = false
+is_number n (Some k) = n == k
+
+abbrev pub IsPairNamed : List Text → Option (PpTok × ℕ) → Type 0
+IsPairNamed names None = Unit {0}
+IsPairNamed names (Some (t, i)) = IsTokenNamed names t

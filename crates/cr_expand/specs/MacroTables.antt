@@ -1,9 +1,8 @@
 -- A table of macros as the list of its names, each with its macro.
-use Rattle.std.specs.Prelude.{◌≡◌, ◌==◌, ◌&&◌, Bool, List, [], ◌∷◌, bytes_eq, if◌then◌else◌, Option, Some, None, option_map, map}
+use Rattle.std.specs.Prelude.{◌≡◌, ◌==◌, List, bytes_eq, if◌then◌else◌, Option, Some, None, option_map, map}
 use Rattle.std.specs.Map.{lookup}
 use Rattle.cr_base.specs.declared.token.Name.{Name}
 use Rattle.cr_base.specs.declared.token.PpTok.{PpTok}
-use Rattle.cr_base.specs.declared.token.Place.{Place}
 use Rattle.cr_base.specs.declared.token.Origin.TheVariants.{At}
 use Rattle.cr_expand.specs.declared.macros.Macro.{Macro}
 use Rattle.cr_expand.specs.declared.fault.ExpandFault.{ExpandFault}

@@ -18,11 +18,7 @@ pub struct ParamList {
 }
 
 // Puts the one token of a piece behind the parameters; false: it is wrong there.
-fn put_token(
-    names: &NameTable,
-    params: &mut ParamList,
-    t: PpTok,
-) -> Result<bool, OutOfMemory>
+fn put_token(names: &NameTable, params: &mut ParamList, t: PpTok) -> Result<bool, OutOfMemory>
     requires { params.old.variadic ≡ false }
     ensures { IfOk result (λ good. (if good then Some (params.new.names.keys, params.new.variadic) else None) ≡ spec.with_token names.now params.old.names.keys t) }
 {

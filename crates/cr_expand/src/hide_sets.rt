@@ -1,8 +1,8 @@
 //! Hide sets by number, so that a token carries its set without a copy.
-ghost use Rattle.std.specs.Prelude.{◌≡◌, ◌<◌, [], ◌∷◌, ◌^◌, IfOk, OnOk, OnErr, Some, MatchOption, if◌then◌else◌, length, slice_get};
+ghost use Rattle.std.specs.Prelude.{◌≡◌, ℕ, ◌<◌, [], ◌∷◌, ◌^◌, IfOk, OnOk, OnErr, Some, MatchOption, if◌then◌else◌, length, slice_get};
 ghost use Rattle.indexmap.specs.IndexSet.{insert_key};
 ghost use Rattle.cr_expand.specs.Definition.{has_name};
-ghost use Rattle.cr_expand.specs.HideSets.{set_at, with_number, with_numbers, in_both, Puts, grown, AreEarlier, sets_of};
+ghost use Rattle.cr_expand.specs.HideSets.{set_at, with_number, with_numbers, in_both, Puts, AreBelow, grown, AreEarlier, sets_of};
 
 use cr_base::{Name, OutOfMemory};
 use indexmap::IndexSet;
@@ -106,6 +106,7 @@ impl HideSets {
         requires { set.0 < length self.old }
         ensures puts { IfOk result (λ n. Puts self.old (with_number name (set_at self.old set.0)) self.new n.0) }
         ensures kept { OnErr result (self.new ≡ self.old) }
+        ensures below { (bound : ℕ) → name.0 < bound → AreBelow bound self.old → AreBelow bound self.new }
     {
         if self.has(set, name) {
             return Ok(set);
@@ -123,7 +124,8 @@ impl HideSets {
     ) -> Result<HideSet, OutOfMemory>
         requires set { set.0 < length self.old }
         requires more { more.0 < length self.old }
-        ensures { IfOk result (λ n. Puts self.old (with_numbers (set_at self.old set.0) (set_at self.old more.0)) self.new n.0) }
+        ensures below { (bound : ℕ) → AreBelow bound self.old → AreBelow bound self.new }
+        ensures puts { IfOk result (λ n. Puts self.old (with_numbers (set_at self.old set.0) (set_at self.old more.0)) self.new n.0) }
     {
         let names = self.names(alloc, more)?;
         let mut all = set;
@@ -142,7 +144,8 @@ impl HideSets {
     ) -> Result<HideSet, OutOfMemory>
         requires set { set.0 < length self.old }
         requires other { other.0 < length self.old }
-        ensures { IfOk result (λ n. Puts self.old (if has_name (set_at self.old other.0) name then with_number name (set_at self.old set.0) else set_at self.old set.0) self.new n.0) }
+        ensures below { (bound : ℕ) → name.0 < bound → AreBelow bound self.old → AreBelow bound self.new }
+        ensures puts { IfOk result (λ n. Puts self.old (if has_name (set_at self.old other.0) name then with_number name (set_at self.old set.0) else set_at self.old set.0) self.new n.0) }
     {
         if !self.has(other, name) {
             return Ok(set);
@@ -160,7 +163,8 @@ impl HideSets {
     ) -> Result<HideSet, OutOfMemory>
         requires set { set.0 < length self.old }
         requires other { other.0 < length self.old }
-        ensures { IfOk result (λ n. Puts self.old (in_both (set_at self.old set.0) (set_at self.old other.0)) self.new n.0) }
+        ensures below { (bound : ℕ) → AreBelow bound self.old → AreBelow bound self.new }
+        ensures puts { IfOk result (λ n. Puts self.old (in_both (set_at self.old set.0) (set_at self.old other.0)) self.new n.0) }
     {
         let names = self.names(alloc, set)?;
         let mut common = self.empty();

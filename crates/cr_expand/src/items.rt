@@ -1,7 +1,8 @@
 //! The items of a macro's body.
-ghost use Rattle.std.specs.Prelude.{◌≡◌, bytes_eq, codes, ◌∷◌, [], IfOk, OnOk, length, List, map, if◌then◌else◌, ◌&&◌, ◌||◌, Some, None, Option, Bool, is_some, drop};
+ghost use Rattle.std.specs.Prelude.{◌≡◌, ◌≤◌, bytes_eq, codes, ◌∷◌, [], IfOk, OnOk, length, List, map, if◌then◌else◌, ◌&&◌, ◌||◌, Some, None, Option, Bool, is_some, drop};
 ghost use Rattle.std.specs.List.{All};
-ghost use Rattle.cr_expand.specs.Items.{found_text, item_text, item_texts, with_text, Serves, IsTokenNamed, IsMacroKnown};
+ghost use Rattle.cr_expand.specs.Parts.{IsItemNamed};
+ghost use Rattle.cr_expand.specs.Items.{IsPairNamed, found_text, item_text, item_texts, with_text, Serves, IsTokenNamed, IsMacroKnown};
 ghost use Rattle.cr_expand.specs.Substitution as spec;
 ghost use Rattle.cr_expand.specs.Tokens.{Text, token_of, tokens_of, is_mark};
 ghost use Rattle.cr_expand.specs.MacroTables.{macro_text};
@@ -39,7 +40,8 @@ fn item_by(
     rest: Option<(PpTok, usize)>,
     own: Option<usize>,
 ) -> (Item, usize)
-    ensures { (names : List Text) → found_text names result ≡ spec.item_by (token_of names [] t) paste beside spelt (with_text names rest) own }
+    ensures found { (names : List Text) → found_text names result ≡ spec.item_by (token_of names [] t) paste beside spelt (with_text names rest) own }
+    ensures named { (names : List Text) → IsTokenNamed names t → IsPairNamed names rest → IsItemNamed names result.0 }
 {
     if paste {
         return (Item::Paste, 0);
@@ -57,7 +59,8 @@ fn item_by(
 }
 
 fn beside_or_not(t: PpTok, beside: bool, n: usize) -> Item
-    ensures { (names : List Text) → item_text names result ≡ (if beside then spec.Bare (token_of names [] t) n else spec.Full (token_of names [] t) n) }
+    ensures text { (names : List Text) → item_text names result ≡ (if beside then spec.Bare (token_of names [] t) n else spec.Full (token_of names [] t) n) }
+    ensures named { (names : List Text) → IsTokenNamed names t → IsItemNamed names result }
 {
     if beside {
         Item::Bare(t, n)
@@ -76,13 +79,7 @@ fn next_is_paste(names: &NameTable, rest: &[PpTok]) -> bool
 }
 
 // The parameter that comes next, behind a `#`.
-fn spelt(
-    names: &NameTable,
-    m: &Macro,
-    params: &Params,
-    t: PpTok,
-    rest: &[PpTok],
-) -> Option<usize>
+fn spelt(names: &NameTable, m: &Macro, params: &Params, t: PpTok, rest: &[PpTok]) -> Option<usize>
     requires serves { Serves names.now m.now params.now }
     requires known { All (IsTokenNamed names.now) rest.now }
     ensures { result ≡ spec.only_if (is_some m.now.params && spec.is_hash (token_of names.now [] t)) (spec.next_param (macro_text names.now m.now) (tokens_of names.now rest.now)) }
@@ -105,7 +102,8 @@ fn pasted_rest(
 ) -> Option<(PpTok, usize)>
     requires serves { Serves names.now m.now params.now }
     requires known { All (IsTokenNamed names.now) rest.now }
-    ensures { with_text names.now result ≡ spec.pasted_rest (macro_text names.now m.now) (tokens_of names.now rest.now) }
+    ensures rest { with_text names.now result ≡ spec.pasted_rest (macro_text names.now m.now) (tokens_of names.now rest.now) }
+    ensures named { IsPairNamed names.now result }
 {
     match rest {
         [paste, v, ..] if m.variadic && is_paste(names, *paste) && is_rest_text(names, *v) => {
@@ -122,7 +120,8 @@ fn is_rest_text(names: &NameTable, t: PpTok) -> bool
 }
 
 fn with_number(t: PpTok, n: Option<usize>) -> Option<(PpTok, usize)>
-    ensures { (names : List Text) → with_text names result ≡ spec.with_token (token_of names [] t) n }
+    ensures text { (names : List Text) → with_text names result ≡ spec.with_token (token_of names [] t) n }
+    ensures named { (names : List Text) → IsTokenNamed names t → IsPairNamed names result }
 {
     match n {
         None => None,
@@ -139,7 +138,8 @@ fn comma_rest(
 ) -> Option<(PpTok, usize)>
     requires serves { Serves names.now m.now params.now }
     requires known { All (IsTokenNamed names.now) rest.now }
-    ensures { with_text names.now result ≡ spec.only_if (is_mark (codes ",") (token_of names.now [] t)) (spec.pasted_rest (macro_text names.now m.now) (tokens_of names.now rest.now)) }
+    ensures named { IsPairNamed names.now result }
+    ensures rest { with_text names.now result ≡ spec.only_if (is_mark (codes ",") (token_of names.now [] t)) (spec.pasted_rest (macro_text names.now m.now) (tokens_of names.now rest.now)) }
 {
     if !is_mark(names, b",", t) {
         return None;
@@ -165,7 +165,8 @@ fn item_at(
     requires serves { Serves names.now m.now params.now }
     requires token { IsTokenNamed names.now t }
     requires known { All (IsTokenNamed names.now) rest.now }
-    ensures { found_text names.now result ≡ spec.item_at (macro_text names.now m.now) beside (token_of names.now [] t) (tokens_of names.now rest.now) }
+    ensures named { IsItemNamed names.now result.0 }
+    ensures found { found_text names.now result ≡ spec.item_at (macro_text names.now m.now) beside (token_of names.now [] t) (tokens_of names.now rest.now) }
 {
     item_by(
         t,
@@ -186,7 +187,9 @@ pub fn items(
 ) -> Result<Vec<Item>, OutOfMemory>
     requires serves { Serves names.now m.now params.now }
     requires known { IsMacroKnown names.now m.now }
-    ensures { IfOk result (λ items. item_texts names.now items.items ≡ spec.body_items (macro_text names.now m.now)) }
+    ensures count { IfOk result (λ items. length items.items ≤ length m.now.body) }
+    ensures named { IfOk result (λ items. All (IsItemNamed names.now) items.items) }
+    ensures items { IfOk result (λ items. item_texts names.now items.items ≡ spec.body_items (macro_text names.now m.now)) }
 {
     let body = m.body.items();
     let mut items = Vec::new(alloc);

@@ -5,6 +5,8 @@ ghost use Rattle.cr_expand.specs.Laws.{FollowsTheRules};
 
 mod definition;
 mod fault;
+mod fill;
+mod head;
 mod held;
 mod hide_sets;
 mod items;
@@ -14,7 +16,12 @@ mod notes;
 mod one_token;
 mod params;
 mod parts;
+mod paste;
+mod pasting;
+mod place;
 mod spelling;
+mod strings;
+mod subst;
 mod words;
 
 pub use cr_base::Role;
@@ -26,3 +33,6 @@ pub use macros::{Macro, Seen};
 pub fn expansion_follows_the_rules()
     ensures { FollowsTheRules }
 {}
+
+#[cfg(test)]
+mod tests;

@@ -42,11 +42,7 @@ fn places(alloc: Global, names: &[Name]) -> Result<IndexMap<Name, usize>, OutOfM
 
 impl Params {
     /// The numbers of these parameters, the variable one's behind them.
-    pub fn of(
-        alloc: Global,
-        names: &[Name],
-        variadic: bool,
-    ) -> Result<Params, OutOfMemory>
+    pub fn of(alloc: Global, names: &[Name], variadic: bool) -> Result<Params, OutOfMemory>
         ensures { IfOk result (λ p. AreNumbers names.now variadic p) }
     {
         let places = places(alloc, names)?;

@@ -1,8 +1,7 @@
-use Rattle.std.proofs.Common.{rules, tests, ◌≡◌, ◌∙◌, sym, ap, Some, [], false, map, List, Bool}
+use Rattle.std.proofs.Common.{rules, tests, ◌∙◌, sym, ap, Some, [], false, List, Bool}
 use Rattle.std.specs.Prelude.{codes, fold, option_map}
 use Rattle.std.proofs.lemmas.Iterator.Splits.{YieldsList-from_slice_split}
 use Rattle.std.proofs.lemmas.Iterator.Consumers.{YieldsList-end}
-use Rattle.cr_base.specs.declared.token.PpTok.{PpTok}
 use Rattle.cr_base.specs.declared.token.Name.{Name}
 use Rattle.cr_expand.specs.declared.definition.ParamList.{ParamList}
 use Rattle.cr_expand.specs.Definition.{is_mark, after_piece}

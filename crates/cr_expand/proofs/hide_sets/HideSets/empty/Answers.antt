@@ -1,4 +1,4 @@
-use Rattle.std.proofs.Common.{◌≡◌, ◌<◌, [], length, arith, ap, subst}
+use Rattle.std.proofs.Common.{◌≡◌, [], length, arith, ap, subst}
 use Rattle.cr_expand.specs.HideSets.{set_at}
 use Rattle.cr_expand.proofs.Sets.{first_is_empty, length_sets}
 use Rattle.cr_expand.proofs.hide_sets.HideSets.empty.Goals as goal

@@ -1,9 +1,8 @@
-use Rattle.std.proofs.Common.{◌≡◌, ◌<◌, ◌≤◌, ◌+◌, ◌-◌, suc, [], List, length, arith, sym, ◌∙◌, ap, subst}
+use Rattle.std.proofs.Common.{◌≡◌, ◌-◌, [], length, arith, ◌∙◌, ap, subst}
 use Rattle.std.proofs.lemmas.Option.{get_or_from_slice_get}
 use Rattle.cr_expand.specs.HideSets.{set_at, sets_of}
 use Rattle.cr_expand.proofs.Sets.{first_is_empty, length_sets, node_here}
 use Rattle.cr_expand.proofs.hide_sets.HideSets.node.Goals as goal
-
 
 pub returns-then-set-eq0 : goal.returns-then-set-eq0
 returns-then-set-eq0 c = subst (λ s. set_at s c.args.set.0 ≡ []) c.self.view_is (ap (set_at (sets_of c.self.inside.nodes.keys)) c.if-set-eq0.true ∙ first_is_empty c.self.inside.nodes.keys)

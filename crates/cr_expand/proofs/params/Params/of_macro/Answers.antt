@@ -1,4 +1,4 @@
-use Rattle.std.proofs.Common.{◌≡◌, Some, subst}
+use Rattle.std.proofs.Common.{Some, subst}
 use Rattle.cr_expand.specs.Items.{AreNamed, AreNumbers}
 use Rattle.cr_expand.proofs.Numbers.{serves_params}
 use Rattle.cr_expand.proofs.params.Params.of_macro.Goals as goal

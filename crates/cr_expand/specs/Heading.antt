@@ -1,0 +1,33 @@
+-- What a token at the head of a list means, before the tokens behind it are looked at.
+use Rattle.std.specs.Prelude.{◌≡◌, ℕ, ◌<◌, List, length, map, Option, Some, None}
+use Rattle.std.specs.List.{All}
+use Rattle.cr_base.specs.declared.token.Name.{Name}
+use Rattle.cr_expand.specs.declared.macros.Macro.{Macro}
+use Rattle.cr_expand.specs.declared.held.Held.{Held}
+use Rattle.cr_expand.specs.declared.head.Head.{Head}
+use Rattle.cr_expand.specs.declared.head.Head.TheVariants as head
+use Rattle.cr_expand.specs.Tokens.{Text, Token, token_of}
+use Rattle.cr_expand.specs.Expansion as spec
+use Rattle.cr_expand.specs.Definition.{text_of}
+use Rattle.cr_expand.specs.MacroTables.{Macros, macro_text, table_of}
+use Rattle.cr_expand.specs.HideSets.{Sets}
+use Rattle.cr_expand.specs.Held.{held, IsNamed}
+use Rattle.cr_expand.specs.Items.{IsMacroKnown}
+
+-- a function-like macro's name before a rest; an object-like one
+abbrev pub called_by : Token → List Text → Macro → List Token → Option (List Name) → spec.Use
+called_by t names m rest None = spec.Object (macro_text names m)
+called_by t names m rest (Some params) = spec.call_of t (macro_text names m) (map (text_of names) params) rest
+
+-- what a head means, as a use of a rule, before a rest
+abbrev pub use_text : List Text → Text → Token → List Token → Head → spec.Use
+use_text names file t rest head.Stays = spec.Keep
+use_text names file t rest (head.Predefined p) = let given = spec.predefined_token file t.line p in spec.Predefined given.0 given.1
+use_text names file t rest (head.Named m) = called_by t names m.now rest m.now.params
+
+-- The names hold those of the macros, and what these are made of.
+abbrev pub IsEntryKnown : List Text → Name × Macro → Type 0
+IsEntryKnown names e = IsNamed names e.0 × IsMacroKnown names e.1
+
+abbrev pub AreMacrosKnown : List Text → Macros → Type 0
+AreMacrosKnown names macros = All (IsEntryKnown names) macros
