@@ -9,20 +9,23 @@ use Rattle.cr_small.specs.Tokens.{Token, cut}
 use Rattle.cr_small.specs.Terminals.{is_name, terminal_of}
 use Rattle.cr_small.specs.Tree.{parts}
 use Rattle.cr_small.specs.Resolution.{file_scope}
-use Rattle.cr_small.specs.Renaming.{places_of, denotes_entity, has_text}
-use Rattle.cr_small.specs.KeepsMeaning.{is_place, renamed_token, Key, external, at, key_of_token, key_of, AreLinked, KeepsMeaning, RenamingKeepsMeaning}
+use Rattle.cr_small.specs.Renaming.{has_text}
+use Rattle.cr_small.proofs.Entities.{places_of, denotes_entity}
+use Rattle.cr_small.specs.Keys.{Key, external, at, key_of_token, key_of}
+use Rattle.cr_small.specs.SmallForm.{IsSmallForm}
+use Rattle.cr_small.specs.KeepsMeaning.{is_place, renamed_token, AreLinked, KeepsMeaning}
 use Rattle.cr_small.specs.declared.grammar.Part.{Part}
 use Rattle.cr_small.specs.declared.binder.Denotation.{Denotation}
 use Rattle.cr_small.proofs.Flat.{bytes_eq-refl}
 use Rattle.cr_small.proofs.Cuts.{InOrder}
-use Rattle.cr_small.proofs.Names.{AllSpelled, text_of, texts-from, well-spelled, target-spelled, same-length, derived-length}
+use Rattle.cr_small.proofs.Names.{AllSpelled, text_of, texts-from, well-spelled, same-length, derived-length}
 use Rattle.cr_small.proofs.Pairs.{resolves-length}
 use Rattle.cr_small.proofs.Spacing.{IsWord, layout-cut}
 use Rattle.cr_small.proofs.Edited.{layout-order}
 use Rattle.cr_small.proofs.Moved.{Each, Each-get, HasText, PlacedAs, order-from, layout-texts, tokens-renamed, placed-text}
 use Rattle.cr_small.proofs.Renames.{AreRenamed, AllFresh, walk-follows}
 use Rattle.cr_small.proofs.Links.{AreAlike, PairsAlike, pairs-alike, alike-at}
-use Rattle.cr_small.proofs.Spelling.{NameIf, NamesAt, well-named, target-name, word-of-name, terminal-of-name}
+use Rattle.cr_small.proofs.Spelling.{NameIf, NamesAt, well-named, word-of-name, terminal-of-name}
 
 -- tokens at one offset are one
 distinct : (ts : List Token) (from end : ℕ) (i j : ℕ) (t u : Token) → InOrder from ts end → Each HasText ts → slice_get ts i ≡ Some t → slice_get ts j ≡ Some u → t.offset ≡ u.offset → i ≡ j
@@ -169,39 +172,40 @@ module _ (f : ℕ → List ℕ) (entity : ℕ) (new : List ℕ) (old_word : IsWo
       (Each-get (λ t. bytes_eq t.text new ≡ false) ts d.token t.0 fresh t.1) (Each-get (λ t. bytes_eq t.text new ≡ false) ts e.token u.0 fresh u.1) t.1 u.1 now in
       (d, e, at_i, at_j, key_of_token d.external t.0, ap (option_map (key_of_token d.external)) t.1, ap (option_map (key_of_token e.external)) u.1 ∙ ap (λ z. Some z) (sym same))
 
-pub keeping : RenamingKeepsMeaning
-keeping bytes new denotes offset target small here new_name fresh_name =
+-- the places of an entity can be renamed
+pub keeping_entity : (bytes new : List ℕ) (denotes : List (Option Denotation)) (entity : ℕ) → IsSmallForm (cut 0 bytes) denotes → is_name (text_of (cut 0 bytes) entity) ≡ true → is_name new ≡ true → has_text new (cut 0 bytes) ≡ false
+    → KeepsMeaning (cut 0 bytes) (cut 0 (substituted (places_of entity (zip (cut 0 bytes) denotes)) (length (text_of (cut 0 bytes) entity)) new bytes)) (places_of entity (zip (cut 0 bytes) denotes)) (text_of (cut 0 bytes) entity) new
+keeping_entity bytes new denotes entity small old_name new_name fresh_name =
     let ts = cut 0 bytes in
     let f = text_of ts in
     let tree = small.1.0 in
     let well = small.1.1 in
     let all = well-spelled ts tree denotes well in
-    let named = target-spelled f (zip ts denotes) offset target all here in
     let names = well-named ts tree denotes well in
-    let old_word : IsWord (f target.entity) = subst IsWord (sym named) (word-of-name target.name (target-name ts denotes offset target names here)) in
+    let old_word : IsWord (f entity) = word-of-name (f entity) old_name in
     let new_word = word-of-name new new_name in
     let n = resolves-length ts denotes small in
-    let places = places_of target.entity (zip ts denotes) in
-    let cuts = tokens-renamed f target.entity new old_word new_word bytes denotes n all in
-    let placed = placed-text f target.entity new old_word new_word bytes denotes n all in
+    let places = places_of entity (zip ts denotes) in
+    let cuts = tokens-renamed f entity new old_word new_word bytes denotes n all in
+    let placed = placed-text f entity new old_word new_word bytes denotes n all in
     let fresh = fresh-each new ts fresh_name in
-    let spelled = spelled-each f target.entity new old_word new_word places ts denotes n placed all in
+    let spelled = spelled-each f entity new old_word new_word places ts denotes n placed all in
     let m = derived-length ts tree well.0 in
     let texts = texts-from ts (parts tree) f 0 (λ k. ap f (let e : 0 + k ≡ k = omega arith in e)) in
-    let walk = walk-follows f target.entity new (zip ts (parts tree)) 0 file_scope denotes (zip (after f target.entity new old_word new_word places ts) (parts tree)) tt (all-fresh f target.entity new old_word new_word places ts (parts tree) fresh) texts
-    (are-renamed f target.entity new old_word new_word places ts (parts tree) denotes n m placed) well.1 in
-    let pairs = pairs-alike f target.entity new (zip ts (parts tree)) 0 file_scope denotes tt (all-fresh f target.entity new old_word new_word places ts (parts tree) fresh) texts well.1 in
-    let edited = substituted places (length (f target.entity)) new bytes in
+    let walk = walk-follows f entity new (zip ts (parts tree)) 0 file_scope denotes (zip (after f entity new old_word new_word places ts) (parts tree)) tt (all-fresh f entity new old_word new_word places ts (parts tree) fresh) texts
+    (are-renamed f entity new old_word new_word places ts (parts tree) denotes n m placed) well.1 in
+    let pairs = pairs-alike f entity new (zip ts (parts tree)) 0 file_scope denotes tt (all-fresh f entity new old_word new_word places ts (parts tree) fresh) texts well.1 in
+    let edited = substituted places (length (f entity)) new bytes in
     let laid = layout-cut edited 0 in
-    let order : InOrder 0 (after f target.entity new old_word new_word places ts) (0 + length edited) = subst (λ l. InOrder 0 l (0 + length edited)) cuts (layout-order (cut 0 edited) 0 edited laid) in
-    let has : Each HasText (after f target.entity new old_word new_word places ts) = subst (Each HasText) cuts (layout-texts (cut 0 edited) 0 edited laid) in
-    let kept : KeepsMeaning ts (after f target.entity new old_word new_word places ts) places (f target.entity) new = record {
+    let order : InOrder 0 (after f entity new old_word new_word places ts) (0 + length edited) = subst (λ l. InOrder 0 l (0 + length edited)) cuts (layout-order (cut 0 edited) 0 edited laid) in
+    let has : Each HasText (after f entity new old_word new_word places ts) = subst (Each HasText) cuts (layout-texts (cut 0 edited) 0 edited laid) in
+    let kept : KeepsMeaning ts (after f entity new old_word new_word places ts) places (f entity) new = record {
       tokens = refl;
-      spelled = λ i t h p. Each-get (λ t. is_place places t.offset ≡ true → t.text ≡ f target.entity) ts i t spelled h p;
+      spelled = λ i t h p. Each-get (λ t. is_place places t.offset ≡ true → t.text ≡ f entity) ts i t spelled h p;
       tree = tree;
       denotes = denotes;
       was_well_formed = well;
-      is_well_formed = (terminals-kept f target.entity new old_word new_word places ts denotes n placed names new_name ∙ well.0, walk);
-      links = λ i j. (links-follow f target.entity new old_word new_word places ts denotes i j refl pairs, links-back f target.entity new old_word new_word places ts denotes i j (0 + length edited) order has spelled fresh);
+      is_well_formed = (terminals-kept f entity new old_word new_word places ts denotes n placed names new_name ∙ well.0, walk);
+      links = λ i j. (links-follow f entity new old_word new_word places ts denotes i j refl pairs, links-back f entity new old_word new_word places ts denotes i j (0 + length edited) order has spelled fresh);
     } in
-    subst (λ old. KeepsMeaning ts (cut 0 (substituted places (length old) new bytes)) places old new) named (subst (λ l. KeepsMeaning ts l places (f target.entity) new) (sym cuts) kept)
+    subst (λ l. KeepsMeaning ts l places (f entity) new) (sym cuts) kept

@@ -1,6 +1,7 @@
 pub mod Braces
 pub mod Cuts
 pub mod Edited
+pub mod Entities
 pub mod Flat
 pub mod Keeping
 pub mod Links

@@ -8,7 +8,6 @@ use Rattle.cr_small.specs.Tokens.{Token}
 use Rattle.cr_small.specs.Terminals.{is_name, is_number, punctuator, terminal_of}
 use Rattle.cr_small.specs.Tree.{Item, number, mention, call, Sum, Statement, local, returns, evaluates, External, object, prototype, definition, Leaf, item_leaves, more_leaves, sum_leaves, initialiser_leaves, object_leaves, statement_leaves, closing, external_leaves, leaves, plain}
 use Rattle.cr_small.specs.Resolution.{Bindings, Bound, bound, resolved, file_scope}
-use Rattle.cr_small.specs.Renaming.{Target, target_of, target_at, covers}
 use Rattle.cr_small.specs.SmallForm.{IsWellFormed}
 use Rattle.cr_small.specs.declared.terminal.Terminal.{Terminal}
 use Rattle.cr_small.specs.declared.terminal.Terminal.TheVariants as terminal
@@ -188,17 +187,3 @@ names-at (t ∷ ts) (l ∷ ls) n b (d ∷ ds) e names h =
 
 pub well-named : (ts : List Token) (tree : List External) (ds : List (Option Denotation)) → IsWellFormed ts tree ds → NamesAt ts ds
 well-named ts tree ds w = names-at ts (leaves tree) 0 file_scope ds w.0 (tree-names tree) w.1
-
--- what stands at an offset is a name
-pub target-name : (ts : List Token) (ds : List (Option Denotation)) (offset : ℕ) (target : Target) → NamesAt ts ds → target_at offset (zip ts ds) ≡ Some target → is_name target.name ≡ true
-target-name [] ds offset target names h = let no : ⊥ = cc in absurd no
-target-name (t ∷ ts) [] offset target names h = let no : ⊥ = cc in absurd no
-target-name (t ∷ ts) (d ∷ ds) offset target names h = by (covers offset t) h (target-name ts ds offset target names.1)
-  where
-    at : (d : Option Denotation) → NameIf t d → target_of t d ≡ Some target → is_name target.name ≡ true
-    at None n g = let no : ⊥ = cc in absurd no
-    at (Some d) n g = let same : (record { name = t.text; entity = d.token }) ≡ target = cc in subst (λ x. is_name x.name ≡ true) same (name-of-terminal t.text n)
-
-    by : (b : Bool) → (if b then target_of t d else target_at offset (zip ts ds)) ≡ Some target → (target_at offset (zip ts ds) ≡ Some target → is_name target.name ≡ true) → is_name target.name ≡ true
-    by true g rest = at d names.0 g
-    by false g rest = rest g

@@ -5,6 +5,7 @@ pub mod Derivation
 pub mod Declarations
 pub mod Resolution
 pub mod SmallForm
+pub mod Keys
 pub mod Renaming
 pub mod KeepsMeaning
 pub mod Machine

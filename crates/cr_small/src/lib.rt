@@ -3,18 +3,12 @@
 
 mod binder;
 mod grammar;
-mod laws;
 mod renaming;
 mod scopes;
 mod terminal;
 mod token;
 
 pub use binder::{Denotation, resolve};
-pub use laws::{
-    a_target_has_a_place, denotations_are_one, places_rise, renaming_keeps_the_meaning,
-};
-pub use renaming::{Target, has_text, places_of, target_at};
+pub use renaming::{EntityKey, Target, has_text, places_of, target_at};
 pub use token::{Token, cut};
 
-#[cfg(test)]
-mod tests;
