@@ -28,7 +28,7 @@ use Rattle.cr_small.proofs.Links.{AreAlike, PairsAlike, pairs-alike, alike-at}
 use Rattle.cr_small.proofs.Spelling.{NameIf, NamesAt, well-named, word-of-name, terminal-of-name}
 
 -- tokens at one offset are one
-distinct : (ts : List Token) (from end : ℕ) (i j : ℕ) (t u : Token) → InOrder from ts end → Each HasText ts → slice_get ts i ≡ Some t → slice_get ts j ≡ Some u → t.offset ≡ u.offset → i ≡ j
+pub distinct : (ts : List Token) (from end : ℕ) (i j : ℕ) (t u : Token) → InOrder from ts end → Each HasText ts → slice_get ts i ≡ Some t → slice_get ts j ≡ Some u → t.offset ≡ u.offset → i ≡ j
 distinct [] from end i j t u order texts h k e = let no : ⊥ = cc in absurd no
 distinct (x ∷ xs) from end zero zero t u order texts h k e = refl
 distinct (x ∷ xs) from end zero (suc j) t u order texts h k e =
@@ -41,12 +41,12 @@ distinct (x ∷ xs) from end (suc i) zero t u order texts h k e =
     absurd (omega (arith, ap (λ z. z.offset) same, texts.0))
 distinct (x ∷ xs) from end (suc i) (suc j) t u order texts h k e = ap suc (distinct xs (x.offset + length x.text) end i j t u order.1 texts.1 h k e)
 
-text_of-get : (ts : List Token) (i : ℕ) (t : Token) → slice_get ts i ≡ Some t → text_of ts i ≡ t.text
+pub text_of-get : (ts : List Token) (i : ℕ) (t : Token) → slice_get ts i ≡ Some t → text_of ts i ≡ t.text
 text_of-get [] i t h = let no : ⊥ = cc in absurd no
 text_of-get (x ∷ xs) zero t h = let same : x ≡ t = cc in ap (λ z. z.text) same
 text_of-get (x ∷ xs) (suc i) t h = text_of-get xs i t h
 
-fresh-each : (new : List ℕ) (ts : List Token) → has_text new ts ≡ false → Each (λ t. bytes_eq t.text new ≡ false) ts
+pub fresh-each : (new : List ℕ) (ts : List Token) → has_text new ts ≡ false → Each (λ t. bytes_eq t.text new ≡ false) ts
 fresh-each new [] h = tt
 fresh-each new (t ∷ ts) h = by (bytes_eq t.text new) refl h (fresh-each new ts)
   where
@@ -86,7 +86,7 @@ module _ (f : ℕ → List ℕ) (entity : ℕ) (new : List ℕ) (old_word : IsWo
   are-renamed (t ∷ ts) [] (d ∷ ds) n m p = absurd (omega arith)
   are-renamed (t ∷ ts) (q ∷ ps) (d ∷ ds) n m p = (ap (λ b. if b then new else t.text) p.0, refl, are-renamed ts ps ds (omega arith) (omega arith) p.1)
 
-  all-fresh : (ts : List Token) (ps : List Part) → Each (λ t. bytes_eq t.text new ≡ false) ts → AllFresh f entity new (zip ts ps)
+  pub all-fresh : (ts : List Token) (ps : List Part) → Each (λ t. bytes_eq t.text new ≡ false) ts → AllFresh f entity new (zip ts ps)
   all-fresh [] ps e = tt
   all-fresh (t ∷ ts) [] e = tt
   all-fresh (t ∷ ts) (p ∷ ps) e = (e.0, all-fresh ts ps e.1)
@@ -174,7 +174,7 @@ module _ (f : ℕ → List ℕ) (entity : ℕ) (new : List ℕ) (old_word : IsWo
 
 -- the places of an entity can be renamed
 pub keeping_entity : (bytes new : List ℕ) (denotes : List (Option Denotation)) (entity : ℕ) → IsSmallForm (cut 0 bytes) denotes → is_name (text_of (cut 0 bytes) entity) ≡ true → is_name new ≡ true → has_text new (cut 0 bytes) ≡ false
-    → KeepsMeaning (cut 0 bytes) (cut 0 (substituted (places_of entity (zip (cut 0 bytes) denotes)) (length (text_of (cut 0 bytes) entity)) new bytes)) (places_of entity (zip (cut 0 bytes) denotes)) (text_of (cut 0 bytes) entity) new
+    → (kept : KeepsMeaning (cut 0 bytes) (cut 0 (substituted (places_of entity (zip (cut 0 bytes) denotes)) (length (text_of (cut 0 bytes) entity)) new bytes)) (places_of entity (zip (cut 0 bytes) denotes)) (text_of (cut 0 bytes) entity) new) × (kept.denotes ≡ denotes)
 keeping_entity bytes new denotes entity small old_name new_name fresh_name =
     let ts = cut 0 bytes in
     let f = text_of ts in
@@ -208,4 +208,4 @@ keeping_entity bytes new denotes entity small old_name new_name fresh_name =
       is_well_formed = (terminals-kept f entity new old_word new_word places ts denotes n placed names new_name ∙ well.0, walk);
       links = λ i j. (links-follow f entity new old_word new_word places ts denotes i j refl pairs, links-back f entity new old_word new_word places ts denotes i j (0 + length edited) order has spelled fresh);
     } in
-    subst (λ l. KeepsMeaning ts l places (f entity) new) (sym cuts) kept
+    subst (λ l. (k : KeepsMeaning ts l places (f entity) new) × (k.denotes ≡ denotes)) (sym cuts) (kept, refl)

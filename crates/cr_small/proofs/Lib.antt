@@ -15,3 +15,6 @@ pub mod Renames
 pub mod Spacing
 pub mod Spelling
 pub mod Walk
+pub mod Flags
+pub mod KeyKeeping
+pub mod KeyLaws

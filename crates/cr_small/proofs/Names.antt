@@ -185,7 +185,7 @@ well-spelled ts tree ds w =
 eq-true : (n : ℕ) → (n == n) ≡ true
 eq-true n = eq-eqb n n refl
 
-InOrder-end : (ts : List Token) (from end : ℕ) → InOrder from ts end → from ≤ end
+pub InOrder-end : (ts : List Token) (from end : ℕ) → InOrder from ts end → from ≤ end
 InOrder-end [] from end h = h
 InOrder-end (t ∷ ts) from end h = let k = InOrder-end ts (t.offset + length t.text) end h.1 in omega (arith, h.0)
 

@@ -8,6 +8,7 @@ pub mod SmallForm
 pub mod Keys
 pub mod Renaming
 pub mod KeepsMeaning
+pub mod Laws
 pub mod Machine
 pub mod Holding
 pub mod Seen
