@@ -3,7 +3,7 @@ use Rattle.std.proofs.Common.{◌≡◌, ℕ, ◌+◌, Bool, true, false, List, 
 use Rattle.std.specs.Prelude.{if◌then◌else◌, bytes_eq}
 use Rattle.std.specs.Option.{option_map, option_and_then}
 use Rattle.cr_small.specs.Tokens.{Token}
-use Rattle.cr_small.specs.Declarations.{Entry, lookup, is_external, first_external, token_or, entity_of, is_redeclared}
+use Rattle.cr_small.specs.Declarations.{Entry, lookup, is_linked, first_linked, token_or, entity_of, is_redeclared}
 use Rattle.cr_small.specs.Resolution.{Bindings, Bound, bound, resolved, declared, denotation, entry_at, mentioned}
 use Rattle.cr_small.specs.declared.grammar.Part.{Part}
 use Rattle.cr_small.specs.declared.grammar.Part.TheVariants as part
@@ -13,7 +13,7 @@ use Rattle.cr_small.proofs.Names.{All, All-push, All-find, All-lookup}
 
 abbrev pub flag : Option Denotation → Bool
 flag None = false
-flag (Some d) = d.external
+flag (Some d) = d.linked
 
 -- the linkage of what the token with a number denotes
 abbrev pub flag_at : List (Option Denotation) → ℕ → Bool
@@ -23,11 +23,11 @@ flag_at (d ∷ ds) (suc k) = flag_at ds k
 
 module _ (g : ℕ → Bool) where
   abbrev pub IsFlagged : Entry → Type 0
-  IsFlagged e = g e.token ≡ e.external
+  IsFlagged e = g e.token ≡ e.linked
 
   abbrev pub FlagIf : Option Denotation → Type 0
   FlagIf None = Unit {0}
-  FlagIf (Some d) = g d.token ≡ d.external
+  FlagIf (Some d) = g d.token ≡ d.linked
 
   abbrev pub AllFlagged : List (Option Denotation) → Type 0
   AllFlagged [] = Unit {0}
@@ -37,13 +37,13 @@ module _ (g : ℕ → Bool) where
   FlagsFrom n [] = Unit {0}
   FlagsFrom n (d ∷ ds) = (g n ≡ flag d) × FlagsFrom (n + 1) ds
 
-  denotation-flagged : (es : List Entry) (e : Entry) → All IsFlagged es → IsFlagged e → g (entity_of es e) ≡ e.external
-  denotation-flagged es e all own = by e.external (first_external e.name es) refl refl
+  denotation-flagged : (es : List Entry) (e : Entry) → All IsFlagged es → IsFlagged e → g (entity_of es e) ≡ e.linked
+  denotation-flagged es e all own = by e.linked (first_linked e.name es) refl refl
     where
-      by : (x : Bool) (o : Option Entry) → e.external ≡ x → first_external e.name es ≡ o → g (if x then token_or e.token o else e.token) ≡ x
+      by : (x : Bool) (o : Option Entry) → e.linked ≡ x → first_linked e.name es ≡ o → g (if x then token_or e.token o else e.token) ≡ x
       by false o h f = own ∙ h
       by true None h f = own ∙ h
-      by true (Some y) h f = All-find IsFlagged (is_external e.name) es y all f ∙ (both y.external (bytes_eq y.name e.name) (find-Some (is_external e.name) es y f)).0
+      by true (Some y) h f = All-find IsFlagged (is_linked e.name) es y all f ∙ (both y.linked (bytes_eq y.name e.name) (find-Some (is_linked e.name) es y f)).0
 
   -- what one token leaves is flagged, and what it denotes
   abbrev BoundFlagged : Option Bound → Type 0
@@ -108,7 +108,7 @@ flags-from all (d ∷ ds) n h =
 pub all-flagged : (xs : List (Token × Part)) (b : Bindings) (ds : List (Option Denotation)) → All (IsFlagged (flag_at ds)) b.entries → resolved 0 b xs ≡ Some ds → AllFlagged (flag_at ds) ds
 all-flagged xs b ds all h = flagged (flag_at ds) xs 0 b ds all (flags-from ds ds 0 (λ k. ap (flag_at ds) (let e : 0 + k ≡ k = omega arith in e))) h
 
-pub flagged-get : (g : ℕ → Bool) (ds : List (Option Denotation)) (i : ℕ) (d : Denotation) → AllFlagged g ds → slice_get ds i ≡ Some (Some d) → g d.token ≡ d.external
+pub flagged-get : (g : ℕ → Bool) (ds : List (Option Denotation)) (i : ℕ) (d : Denotation) → AllFlagged g ds → slice_get ds i ≡ Some (Some d) → g d.token ≡ d.linked
 flagged-get g [] i d all h = let no : None ≡ Some (Some d) = h in let bad : ⊥ = cc in absurd bad
 flagged-get g (x ∷ ds) zero d all h = let same : x ≡ Some d = cc in subst (FlagIf g) same all.0
 flagged-get g (x ∷ ds) (suc i) d all h = flagged-get g ds i d all.1 h

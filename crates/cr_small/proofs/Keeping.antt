@@ -92,15 +92,15 @@ module _ (f : ℕ → List ℕ) (entity : ℕ) (new : List ℕ) (old_word : IsWo
   all-fresh (t ∷ ts) (p ∷ ps) e = (e.0, all-fresh ts ps e.1)
 
   -- the key of an entity before and after
-  key-found : (ts : List Token) (d : Denotation) (k : Key) → key_of ts d ≡ Some k → (t : Token) × (slice_get ts d.token ≡ Some t) × (k ≡ key_of_token d.external t)
+  key-found : (ts : List Token) (d : Denotation) (k : Key) → key_of ts d ≡ Some k → (t : Token) × (slice_get ts d.token ≡ Some t) × (k ≡ key_of_token d.linked t)
   key-found ts d k h = by (slice_get ts d.token) refl h
     where
-      by : (o : Option Token) → slice_get ts d.token ≡ o → option_map (key_of_token d.external) o ≡ Some k → (t : Token) × (slice_get ts d.token ≡ Some t) × (k ≡ key_of_token d.external t)
+      by : (o : Option Token) → slice_get ts d.token ≡ o → option_map (key_of_token d.linked) o ≡ Some k → (t : Token) × (slice_get ts d.token ≡ Some t) × (k ≡ key_of_token d.linked t)
       by None e g = let no : ⊥ = cc in absurd no
-      by (Some t) e g = (t, e, let same : key_of_token d.external t ≡ k = cc in sym same)
+      by (Some t) e g = (t, e, let same : key_of_token d.linked t ≡ k = cc in sym same)
 
-  key-after : (ts : List Token) (d : Denotation) (t : Token) → slice_get ts d.token ≡ Some t → key_of (after ts) d ≡ Some (key_of_token d.external (renamed_token places (f entity) new t))
-  key-after ts d t h = ap (option_map (key_of_token d.external)) (slice_get-map (renamed_token places (f entity) new) ts d.token ∙ ap (option_map (renamed_token places (f entity) new)) h)
+  key-after : (ts : List Token) (d : Denotation) (t : Token) → slice_get ts d.token ≡ Some t → key_of (after ts) d ≡ Some (key_of_token d.linked (renamed_token places (f entity) new t))
+  key-after ts d t h = ap (option_map (key_of_token d.linked)) (slice_get-map (renamed_token places (f entity) new) ts d.token ∙ ap (option_map (renamed_token places (f entity) new)) h)
 
   key-before : (ts : List Token) (d : Denotation) (u : Token) → slice_get (after ts) d.token ≡ Some u → (t : Token) × (slice_get ts d.token ≡ Some t) × (renamed_token places (f entity) new t ≡ u)
   key-before ts d u h = by (slice_get ts d.token) refl (sym (slice_get-map (renamed_token places (f entity) new) ts d.token) ∙ h)
@@ -110,7 +110,7 @@ module _ (f : ℕ → List ℕ) (entity : ℕ) (new : List ℕ) (old_word : IsWo
       by (Some t) e g = (t, e, cc)
 
   -- entities of one key have one key afterwards
-  keys-follow : (ts : List Token) (d e : Denotation) (t u : Token) (x y : Bool) → d.external ≡ x → e.external ≡ y → AreAlike f entity new d e → (f d.token ≡ t.text) → (f e.token ≡ u.text)
+  keys-follow : (ts : List Token) (d e : Denotation) (t u : Token) (x y : Bool) → d.linked ≡ x → e.linked ≡ y → AreAlike f entity new d e → (f d.token ≡ t.text) → (f e.token ≡ u.text)
       → slice_get ts d.token ≡ Some t → slice_get ts e.token ≡ Some u → key_of_token x t ≡ key_of_token y u → key_of_token x (renamed_token places (f entity) new t) ≡ key_of_token y (renamed_token places (f entity) new u)
   keys-follow ts d e t u true true p q alike m n h k same =
       let names : t.text ≡ u.text = cc in
@@ -155,8 +155,8 @@ module _ (f : ℕ → List ℕ) (entity : ℕ) (new : List ℕ) (old_word : IsWo
       let t = key-found ts d k one in
       let u = key-found ts e k other in
       let alike = alike-at f entity new ds i j d e pairs at_i at_j in
-      let same = keys-follow ts d e t.0 u.0 d.external e.external refl refl alike (ap (λ g. g d.token) is ∙ text_of-get ts d.token t.0 t.1) (ap (λ g. g e.token) is ∙ text_of-get ts e.token u.0 u.1) t.1 u.1 (sym t.2 ∙ u.2) in
-      (d, e, at_i, at_j, key_of_token d.external (renamed_token places (f entity) new t.0), key-after ts d t.0 t.1, key-after ts e u.0 u.1 ∙ ap (λ z. Some z) (sym same))
+      let same = keys-follow ts d e t.0 u.0 d.linked e.linked refl refl alike (ap (λ g. g d.token) is ∙ text_of-get ts d.token t.0 t.1) (ap (λ g. g e.token) is ∙ text_of-get ts e.token u.0 u.1) t.1 u.1 (sym t.2 ∙ u.2) in
+      (d, e, at_i, at_j, key_of_token d.linked (renamed_token places (f entity) new t.0), key-after ts d t.0 t.1, key-after ts e u.0 u.1 ∙ ap (λ z. Some z) (sym same))
 
   links-back : (ts : List Token) (ds : List (Option Denotation)) (i j end : ℕ) → InOrder 0 (after ts) end → Each HasText (after ts) → Each (λ t. is_place places t.offset ≡ true → t.text ≡ f entity) ts → Each (λ t. bytes_eq t.text new ≡ false) ts
       → AreLinked (after ts) ds i j → AreLinked ts ds i j
@@ -165,12 +165,12 @@ module _ (f : ℕ → List ℕ) (entity : ℕ) (new : List ℕ) (old_word : IsWo
       let w = key-found (after ts) e k other in
       let t = key-before ts d v.0 v.1 in
       let u = key-before ts e w.0 w.1 in
-      let now : key_of_token d.external (renamed_token places (f entity) new t.0) ≡ key_of_token e.external (renamed_token places (f entity) new u.0) =
-      ap (key_of_token d.external) t.2 ∙ sym v.2 ∙ w.2 ∙ ap (key_of_token e.external) (sym u.2) in
-      let same = keys-back ts end d e t.0 u.0 d.external e.external order texts
+      let now : key_of_token d.linked (renamed_token places (f entity) new t.0) ≡ key_of_token e.linked (renamed_token places (f entity) new u.0) =
+      ap (key_of_token d.linked) t.2 ∙ sym v.2 ∙ w.2 ∙ ap (key_of_token e.linked) (sym u.2) in
+      let same = keys-back ts end d e t.0 u.0 d.linked e.linked order texts
       (Each-get (λ t. is_place places t.offset ≡ true → t.text ≡ f entity) ts d.token t.0 spelled t.1) (Each-get (λ t. is_place places t.offset ≡ true → t.text ≡ f entity) ts e.token u.0 spelled u.1)
       (Each-get (λ t. bytes_eq t.text new ≡ false) ts d.token t.0 fresh t.1) (Each-get (λ t. bytes_eq t.text new ≡ false) ts e.token u.0 fresh u.1) t.1 u.1 now in
-      (d, e, at_i, at_j, key_of_token d.external t.0, ap (option_map (key_of_token d.external)) t.1, ap (option_map (key_of_token e.external)) u.1 ∙ ap (λ z. Some z) (sym same))
+      (d, e, at_i, at_j, key_of_token d.linked t.0, ap (option_map (key_of_token d.linked)) t.1, ap (option_map (key_of_token e.linked)) u.1 ∙ ap (λ z. Some z) (sym same))
 
 -- the places of an entity can be renamed
 pub keeping_entity : (bytes new : List ℕ) (denotes : List (Option Denotation)) (entity : ℕ) → IsSmallForm (cut 0 bytes) denotes → is_name (text_of (cut 0 bytes) entity) ≡ true → is_name new ≡ true → has_text new (cut 0 bytes) ≡ false

@@ -98,14 +98,14 @@ pub record Keyed (ts : List Token) (i : ℕ) (d : Denotation) : Type 0 where
   pub first : Token
   pub first_at : slice_get ts d.token ≡ Some first
   pub alike : first.text ≡ own.text
-  pub key : key_of ts d ≡ Some (key_of_token d.external first)
+  pub key : key_of ts d ≡ Some (key_of_token d.linked first)
 
 pub keyed-at : (ts : List Token) (ds : List (Option Denotation)) (i : ℕ) (d : Denotation) → IsSmallForm ts ds → slice_get ds i ≡ Some (Some d) → Keyed ts i d
 keyed-at ts ds i d small h =
     let t = token-at ts ds i (Some d) (resolves-length ts ds small) h in
     let name = name-get ts ds i t.0 d (well-named ts small.1.0 ds small.1.1) t.1 h in
     let u = first-token ts d.token t.0.text (spelled-get (text_of ts) ts ds i t.0 d (well-spelled ts small.1.0 ds small.1.1) t.1 h) name in
-    record { own = t.0; own_at = t.1; name = name; first = u.0; first_at = u.1; alike = u.2; key = ap (option_map (key_of_token d.external)) u.1 }
+    record { own = t.0; own_at = t.1; name = name; first = u.0; first_at = u.1; alike = u.2; key = ap (option_map (key_of_token d.linked)) u.1 }
 
 -- what stands at an offset is one of the tokens
 pub record Found (ts : List Token) (ds : List (Option Denotation)) (target : Target) : Type 0 where
@@ -126,10 +126,10 @@ found-among all offset target (t ∷ ts) (d ∷ ds) h = by (covers offset t) h (
     here None e g = let no : None ≡ Some target = g in let bad : ⊥ = cc in absurd bad
     here (Some x) e g = key (key_of all x) refl g
       where
-        key : (o : Option Key) → key_of all x ≡ o → option_map (λ k. record { name = t.text; key = k; at_file_scope = x.external }) o ≡ Some target → (f : Found (t ∷ ts) (d ∷ ds) target) × (key_of all f.denotes ≡ Some target.key)
+        key : (o : Option Key) → key_of all x ≡ o → option_map (λ k. record { name = t.text; key = k; at_file_scope = x.linked }) o ≡ Some target → (f : Found (t ∷ ts) (d ∷ ds) target) × (key_of all f.denotes ≡ Some target.key)
         key None k g = let no : None ≡ Some target = g in let bad : ⊥ = cc in absurd bad
         key (Some y) k g =
-            let same : (record { name = t.text; key = y; at_file_scope = x.external }) ≡ target = cc in
+            let same : (record { name = t.text; key = y; at_file_scope = x.linked }) ≡ target = cc in
             (record { index = 0; token = t; denotes = x; token_at = refl; denotes_at = ap (λ z. Some z) e; name = sym (ap (λ (z : Target). z.name) same) }, k ∙ ap (λ (z : Target). Some z.key) same)
 
     by : (b : Bool) → (if b then target_of all t d else target_among all offset (zip ts ds)) ≡ Some target → (target_among all offset (zip ts ds) ≡ Some target → (f : Found ts ds target) × (key_of all f.denotes ≡ Some target.key))
@@ -144,7 +144,7 @@ found-at ts ds offset target h = found-among ts offset target ts ds h
 
 -- two tokens of one key are spelled alike
 same-text : (ts : List Token) (i j end : ℕ) (d e : Denotation) → InOrder 0 ts end → Each HasText ts → (k : Keyed ts i d) (l : Keyed ts j e) → key_of ts d ≡ key_of ts e → k.own.text ≡ l.own.text
-same-text ts i j end d e order texts k l same = by d.external e.external (let eq : Some (key_of_token d.external k.first) ≡ Some (key_of_token e.external l.first) = sym k.key ∙ same ∙ l.key in let keys : key_of_token d.external k.first ≡ key_of_token e.external l.first = cc in keys)
+same-text ts i j end d e order texts k l same = by d.linked e.linked (let eq : Some (key_of_token d.linked k.first) ≡ Some (key_of_token e.linked l.first) = sym k.key ∙ same ∙ l.key in let keys : key_of_token d.linked k.first ≡ key_of_token e.linked l.first = cc in keys)
   where
     by : (x y : Bool) → key_of_token x k.first ≡ key_of_token y l.first → k.own.text ≡ l.own.text
     by true true h = let names : k.first.text ≡ l.first.text = cc in sym k.alike ∙ names ∙ l.alike
@@ -169,7 +169,7 @@ module _ (bytes : List ℕ) (ds : List (Option Denotation)) (small : IsSmallForm
 
   -- the name of a key is that of each token which denotes its entity
   pub named : (name : List ℕ) (key : Key) (i : ℕ) (d : Denotation) → IsNameOf name key ts ds → (h : slice_get ds i ≡ Some (Some d)) → key_of ts d ≡ Some key → (keyed-at ts ds i d small h).own.text ≡ name
-  named name key i d (inl is) h k = by d.external (let eq : Some (key_of_token d.external one.first) ≡ Some key = sym one.key ∙ k in let keys : key_of_token d.external one.first ≡ key = cc in keys ∙ is)
+  named name key i d (inl is) h k = by d.linked (let eq : Some (key_of_token d.linked one.first) ≡ Some key = sym one.key ∙ k in let keys : key_of_token d.linked one.first ≡ key = cc in keys ∙ is)
     where
       one : Keyed ts i d
       one = keyed-at ts ds i d small h

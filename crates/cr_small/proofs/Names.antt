@@ -8,7 +8,7 @@ use Rattle.cr_base.specs.Substitution.{Rise}
 use Rattle.cr_small.specs.Tokens.{Token, cut}
 use Rattle.cr_small.specs.Terminals.{terminal_of}
 use Rattle.cr_small.specs.Tree.{External, leaves, parts, Derives}
-use Rattle.cr_small.specs.Declarations.{Entry, is_in, last_in, lookup, is_external, first_external, token_or, entity_of, is_redeclared}
+use Rattle.cr_small.specs.Declarations.{Entry, is_in, last_in, lookup, is_linked, first_linked, token_or, entity_of, is_redeclared}
 use Rattle.cr_small.specs.Resolution.{Bindings, Bound, bound, resolved, file_scope, declared, mentioned, denotation, entry_at}
 use Rattle.cr_small.specs.SmallForm.{IsWellFormed}
 use Rattle.cr_small.proofs.Entities.{denotes_entity, places_of}
@@ -79,14 +79,14 @@ module _ (text_at : ℕ → List ℕ) where
   Spelled (x ∷ xs) (d ∷ ds) = SpelledOne x.0.text d × Spelled xs ds
 
   pub entity-named : (es : List Entry) (e : Entry) → All IsNamed es → IsNamed e → text_at (entity_of es e) ≡ e.name
-  entity-named es e all own = by e.external (first_external e.name es) refl
+  entity-named es e all own = by e.linked (first_linked e.name es) refl
     where
-      by : (x : Bool) (o : Option Entry) → first_external e.name es ≡ o → text_at (if x then token_or e.token o else e.token) ≡ e.name
+      by : (x : Bool) (o : Option Entry) → first_linked e.name es ≡ o → text_at (if x then token_or e.token o else e.token) ≡ e.name
       by false o f = own
       by true None f = own
       by true (Some y) f =
-          let t = both y.external (bytes_eq y.name e.name) (find-Some (is_external e.name) es y f) in
-          All-find IsNamed (is_external e.name) es y all f ∙ bytes_eq-true y.name e.name t.1
+          let t = both y.linked (bytes_eq y.name e.name) (find-Some (is_linked e.name) es y f) in
+          All-find IsNamed (is_linked e.name) es y all f ∙ bytes_eq-true y.name e.name t.1
 
   -- what one token leaves is named, and what it denotes is spelled so
   abbrev BoundNamed : List ℕ → Option Bound → Type 0

@@ -4,7 +4,7 @@ use Rattle.std.specs.Prelude.{if◌then◌else◌, bytes_eq, ◌==◌}
 use Rattle.std.specs.List.{list_any, find}
 use Rattle.std.specs.Option.{option_map, option_or, option_and_then, is_some}
 use Rattle.cr_small.specs.Tokens.{Token}
-use Rattle.cr_small.specs.Declarations.{Entry, is_in, last_in, lookup, is_external, first_external, token_or, entity_of, both_or_neither, clashes, is_redeclared}
+use Rattle.cr_small.specs.Declarations.{Entry, is_in, last_in, lookup, is_linked, first_linked, token_or, entity_of, both_or_neither, clashes, is_redeclared}
 use Rattle.cr_small.specs.Resolution.{Bindings, Bound, bound, resolved, declared, mentioned, denotation, entry_at, is_file_scope}
 use Rattle.cr_small.proofs.Entities.{denotes_entity}
 use Rattle.cr_small.specs.declared.grammar.Part.{Part}
@@ -101,14 +101,14 @@ lookup-some r (scope ∷ out) name name' es e a h n = by (last_in (scope ∷ out
 module _ (f : ℕ → List ℕ) (entity : ℕ) (new : List ℕ) where
   -- an entry with the new name, if it declares the entity
   abbrev pub rename : List Entry → Entry → Entry
-  rename es e = record { path = e.path; name = if entity_of es e == entity then new else e.name; token = e.token; function = e.function; external = e.external }
+  rename es e = record { path = e.path; name = if entity_of es e == entity then new else e.name; token = e.token; function = e.function; linked = e.linked }
 
-  -- what is known of each entry: it is named as its token is spelled, not by the new name, and is known by its name if it is external
+  -- what is known of each entry: it is named as its token is spelled, not by the new name, and is known by its name if it has linkage
   abbrev pub IsFresh : List ℕ → Type 0
   IsFresh name = bytes_eq name new ≡ false
 
   abbrev pub IsKnown : List Entry → Entry → Type 0
-  IsKnown es e = IsNamed f e × IsFresh e.name × (e.external ≡ true → is_some (first_external e.name es) ≡ true)
+  IsKnown es e = IsNamed f e × IsFresh e.name × (e.linked ≡ true → is_some (first_linked e.name es) ≡ true)
 
   abbrev pub renamed : Bindings → Bindings
   renamed b = record { entries = map (rename b.entries) b.entries; path = b.path; next = b.next }
@@ -126,22 +126,22 @@ module _ (f : ℕ → List ℕ) (entity : ℕ) (new : List ℕ) where
       by false h true g t = let no : true ≡ false = sym t ∙ k.1 in let bad : ⊥ = cc in absurd bad
       by false h false g t = t
 
-  -- external declarations of one name are one entity
-  one-entity : (es : List Entry) (e y : Entry) → IsKnown es e → IsKnown es y → e.external ≡ true → y.external ≡ true → y.name ≡ e.name → entity_of es y ≡ entity_of es e
+  -- declarations of one name with linkage are one entity
+  one-entity : (es : List Entry) (e y : Entry) → IsKnown es e → IsKnown es y → e.linked ≡ true → y.linked ≡ true → y.name ≡ e.name → entity_of es y ≡ entity_of es e
   one-entity es e y k l x z same =
-      ap (λ b. if b then token_or y.token (first_external y.name es) else y.token) z
-      ∙ ap (λ n. token_or y.token (first_external n es)) same
-      ∙ default (first_external e.name es) (k.2 x)
-      ∙ sym (ap (λ b. if b then token_or e.token (first_external e.name es) else e.token) x)
+      ap (λ b. if b then token_or y.token (first_linked y.name es) else y.token) z
+      ∙ ap (λ n. token_or y.token (first_linked n es)) same
+      ∙ default (first_linked e.name es) (k.2 x)
+      ∙ sym (ap (λ b. if b then token_or e.token (first_linked e.name es) else e.token) x)
     where
       default : (o : Option Entry) → is_some o ≡ true → token_or y.token o ≡ token_or e.token o
       default None h = let bad : ⊥ = cc in absurd bad
       default (Some w) h = refl
 
-  external-kept : (es : List Entry) (e : Entry) → All (IsKnown es) es → IsKnown es e → e.external ≡ true → (y : Entry) → IsKnown es y → is_external (rename es e).name (rename es y) ≡ is_external e.name y
-  external-kept es e all k x y l = by y.external refl (bytes_eq y.name e.name) refl (bytes_eq (rename es y).name (rename es e).name) refl
+  linked-kept : (es : List Entry) (e : Entry) → All (IsKnown es) es → IsKnown es e → e.linked ≡ true → (y : Entry) → IsKnown es y → is_linked (rename es e).name (rename es y) ≡ is_linked e.name y
+  linked-kept es e all k x y l = by y.linked refl (bytes_eq y.name e.name) refl (bytes_eq (rename es y).name (rename es e).name) refl
     where
-      by : (z : Bool) → y.external ≡ z → (s : Bool) → bytes_eq y.name e.name ≡ s → (t : Bool) → bytes_eq (rename es y).name (rename es e).name ≡ t → (z && t) ≡ (z && s)
+      by : (z : Bool) → y.linked ≡ z → (s : Bool) → bytes_eq y.name e.name ≡ s → (t : Bool) → bytes_eq (rename es y).name (rename es e).name ≡ t → (z && t) ≡ (z && s)
       by false z s h t g = refl
       by true z true h t g =
           let n : y.name ≡ e.name = bytes_eq-true y.name e.name h in
@@ -155,38 +155,38 @@ module _ (f : ℕ → List ℕ) (entity : ℕ) (new : List ℕ) where
 
   -- each entry declares the entity that it declared
   entity-kept : (es : List Entry) (e : Entry) → All (IsKnown es) es → IsKnown es e → entity_of (map (rename es) es) (rename es e) ≡ entity_of es e
-  entity-kept es e all k = by e.external refl
+  entity-kept es e all k = by e.linked refl
     where
       tokens : (o : Option Entry) → token_or e.token (option_map (rename es) o) ≡ token_or e.token o
       tokens None = refl
       tokens (Some w) = refl
 
-      by : (z : Bool) → e.external ≡ z → (if z then token_or e.token (first_external (rename es e).name (map (rename es) es)) else e.token) ≡ (if z then token_or e.token (first_external e.name es) else e.token)
+      by : (z : Bool) → e.linked ≡ z → (if z then token_or e.token (first_linked (rename es e).name (map (rename es) es)) else e.token) ≡ (if z then token_or e.token (first_linked e.name es) else e.token)
       by false x = refl
       by true x =
-          ap (token_or e.token) (find-map (is_external e.name) (is_external (rename es e).name) (rename es) es (All-map (IsKnown es) (λ y. is_external (rename es e).name (rename es y) ≡ is_external e.name y) es (λ y l. external-kept es e all k x y l) all))
-          ∙ tokens (first_external e.name es)
+          ap (token_or e.token) (find-map (is_linked e.name) (is_linked (rename es e).name) (rename es) es (All-map (IsKnown es) (λ y. is_linked (rename es e).name (rename es y) ≡ is_linked e.name y) es (λ y l. linked-kept es e all k x y l) all))
+          ∙ tokens (first_linked e.name es)
 
   denotation-kept : (es : List Entry) (e : Entry) → All (IsKnown es) es → IsKnown es e → denotation (map (rename es) es) (rename es e) ≡ denotation es e
-  denotation-kept es e all k = ap {B = Denotation} (λ t. record { token = t; external = e.external }) (entity-kept es e all k)
+  denotation-kept es e all k = ap {B = Denotation} (λ t. record { token = t; linked = e.linked }) (entity-kept es e all k)
 
   -- one declaration more leaves the entities of the others
-  some-push : (es : List Entry) (new_one : Entry) (name : List ℕ) → is_some (first_external name es) ≡ true → first_external name (es ++ new_one ∷ []) ≡ first_external name es
-  some-push es new_one name h = find-push (is_external name) es new_one ∙ by (first_external name es) h
+  some-push : (es : List Entry) (new_one : Entry) (name : List ℕ) → is_some (first_linked name es) ≡ true → first_linked name (es ++ new_one ∷ []) ≡ first_linked name es
+  some-push es new_one name h = find-push (is_linked name) es new_one ∙ by (first_linked name es) h
     where
-      by : (o : Option Entry) → is_some o ≡ true → option_or o (if is_external name new_one then Some new_one else None) ≡ o
+      by : (o : Option Entry) → is_some o ≡ true → option_or o (if is_linked name new_one then Some new_one else None) ≡ o
       by None g = let bad : ⊥ = cc in absurd bad
       by (Some w) g = refl
 
   entity-push : (es : List Entry) (new_one e : Entry) → IsKnown es e → entity_of (es ++ new_one ∷ []) e ≡ entity_of es e
-  entity-push es new_one e k = by e.external refl
+  entity-push es new_one e k = by e.linked refl
     where
-      by : (z : Bool) → e.external ≡ z → (if z then token_or e.token (first_external e.name (es ++ new_one ∷ [])) else e.token) ≡ (if z then token_or e.token (first_external e.name es) else e.token)
+      by : (z : Bool) → e.linked ≡ z → (if z then token_or e.token (first_linked e.name (es ++ new_one ∷ [])) else e.token) ≡ (if z then token_or e.token (first_linked e.name es) else e.token)
       by false x = refl
       by true x = ap (token_or e.token) (some-push es new_one e.name (k.2 x))
 
   rename-push : (es : List Entry) (new_one e : Entry) → IsKnown es e → rename (es ++ new_one ∷ []) e ≡ rename es e
-  rename-push es new_one e k = ap {B = Entry} (λ t. record { path = e.path; name = if t == entity then new else e.name; token = e.token; function = e.function; external = e.external }) (entity-push es new_one e k)
+  rename-push es new_one e k = ap {B = Entry} (λ t. record { path = e.path; name = if t == entity then new else e.name; token = e.token; function = e.function; linked = e.linked }) (entity-push es new_one e k)
 
   renamed-push : (es : List Entry) (e : Entry) → All (IsKnown es) es → map (rename (es ++ e ∷ [])) (es ++ e ∷ []) ≡ map (rename es) es ++ rename (es ++ e ∷ []) e ∷ []
   renamed-push es e all =
@@ -195,9 +195,9 @@ module _ (f : ℕ → List ℕ) (entity : ℕ) (new : List ℕ) where
 
   -- a new entry is known among the others
   pub known-self : (es : List Entry) (e : Entry) → IsNamed f e → IsFresh e.name → IsKnown (es ++ e ∷ []) e
-  known-self es e own fresh = (own, fresh, λ x. ap is_some (find-push (is_external e.name) es e) ∙ by (first_external e.name es) (ap (λ b. b && bytes_eq e.name e.name) x ∙ bytes_eq-refl e.name))
+  known-self es e own fresh = (own, fresh, λ x. ap is_some (find-push (is_linked e.name) es e) ∙ by (first_linked e.name es) (ap (λ b. b && bytes_eq e.name e.name) x ∙ bytes_eq-refl e.name))
     where
-      by : (o : Option Entry) → is_external e.name e ≡ true → is_some (option_or o (if is_external e.name e then Some e else None)) ≡ true
+      by : (o : Option Entry) → is_linked e.name e ≡ true → is_some (option_or o (if is_linked e.name e then Some e else None)) ≡ true
       by None h = ap (λ b. is_some (if b then Some e else None)) h
       by (Some w) h = refl
 
@@ -229,7 +229,7 @@ module _ (f : ℕ → List ℕ) (entity : ℕ) (new : List ℕ) where
   clash-apart : (b : Bindings) (n : ℕ) (text text' : List ℕ) (function : Bool) (y : Entry) → IsApart (rename b.entries) text text' y
       → clashes (entry_at (renamed b) function text' n) (rename b.entries y) ≡ true → clashes (entry_at b function text n) y ≡ true
   clash-apart b n text text' function y a h =
-      let flags = not (is_file_scope b.path && y.external && both_or_neither function y.function) in
+      let flags = not (is_file_scope b.path && y.linked && both_or_neither function y.function) in
       let w = both (is_in b.path text' (rename b.entries y)) flags h in
       ap (λ z. z && flags) (in-apart (rename b.entries) b.path text text' y a w.0) ∙ w.1
 

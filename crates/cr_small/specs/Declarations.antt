@@ -11,7 +11,7 @@ pub record Entry : Type 0 where
   pub name : List ℕ
   pub token : ℕ
   pub function : Bool
-  pub external : Bool
+  pub linked : Bool
 
 -- the entry is of this scope and name
 abbrev pub is_in : List ℕ → List ℕ → Entry → Bool
@@ -27,12 +27,12 @@ abbrev pub lookup : List Entry → List ℕ → List ℕ → Option Entry
 lookup entries name [] = last_in [] name entries
 lookup entries name (scope ∷ around) = option_or (last_in (scope ∷ around) name entries) (lookup entries name around)
 
-abbrev pub is_external : List ℕ → Entry → Bool
-is_external name entry = entry.external && bytes_eq entry.name name
+abbrev pub is_linked : List ℕ → Entry → Bool
+is_linked name entry = entry.linked && bytes_eq entry.name name
 
 -- the first declaration of a name with external linkage
-abbrev pub first_external : List ℕ → List Entry → Option Entry
-first_external name entries = find (is_external name) entries
+abbrev pub first_linked : List ℕ → List Entry → Option Entry
+first_linked name entries = find (is_linked name) entries
 
 abbrev pub token_or : ℕ → Option Entry → ℕ
 token_or own None = own
@@ -41,7 +41,7 @@ token_or own (Some entry) = entry.token
 -- The first declaring token of the entity that an entry declares: all declarations of a name with external
 -- linkage are one entity, and any other is one by itself (C11 6.2.2p2).
 abbrev pub entity_of : List Entry → Entry → ℕ
-entity_of entries entry = if entry.external then token_or entry.token (first_external entry.name entries) else entry.token
+entity_of entries entry = if entry.linked then token_or entry.token (first_linked entry.name entries) else entry.token
 
 abbrev pub both_or_neither : Bool → Bool → Bool
 both_or_neither true b = b
@@ -49,7 +49,7 @@ both_or_neither false b = not b
 
 -- Two declarations of a name in one scope clash, unless both have linkage and are of one kind (C11 6.7p3).
 abbrev pub clashes : Entry → Entry → Bool
-clashes new old = is_in new.path new.name old && not (new.external && old.external && both_or_neither new.function old.function)
+clashes new old = is_in new.path new.name old && not (new.linked && old.linked && both_or_neither new.function old.function)
 
 abbrev pub is_redeclared : List Entry → Entry → Bool
 is_redeclared entries new = list_any (clashes new) entries

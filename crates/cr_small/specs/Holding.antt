@@ -4,7 +4,7 @@ use Rattle.std.specs.Borrow.{Bor}
 use Rattle.std.specs.List.{list_any}
 use Rattle.std.specs.Option.{option_map}
 use Rattle.std.specs.Map.{lookup as found_in}
-use Rattle.cr_small.specs.Declarations.{Entry, is_external, first_external, last_in, both_or_neither}
+use Rattle.cr_small.specs.Declarations.{Entry, is_linked, first_linked, last_in, both_or_neither}
 use Rattle.cr_small.specs.Resolution.{Bindings, Bound, is_file_scope}
 use Rattle.cr_small.specs.declared.grammar.Part.{Part}
 use Rattle.cr_small.specs.declared.grammar.Part.TheVariants as part
@@ -27,15 +27,15 @@ IsOpened next (scope ∷ around ∷ rest) = ⊥
 
 abbrev pub AllOpened : ℕ → List Entry → Type 0
 AllOpened next [] = Unit {0}
-AllOpened next (e ∷ es) = IsOpened next e.path × (e.external ≡ is_file_scope e.path) × AllOpened next es
+AllOpened next (e ∷ es) = IsOpened next e.path × (e.linked ≡ is_file_scope e.path) × AllOpened next es
 
--- an external declaration of the name, of the other kind
+-- a declaration of the name with linkage, of the other kind
 abbrev pub other_kind : Bool → List ℕ → Entry → Bool
-other_kind function name e = is_external name e && not (both_or_neither function e.function)
+other_kind function name e = is_linked name e && not (both_or_neither function e.function)
 
--- no external declaration of a name is of another kind than the first
+-- no declaration of a name with linkage is of another kind than the first
 abbrev pub IsOneKind : List Entry → Type 0
-IsOneKind entries = (name : List ℕ) (first : Entry) → first_external name entries ≡ Some first → list_any (other_kind first.function name) entries ≡ false
+IsOneKind entries = (name : List ℕ) (first : Entry) → first_linked name entries ≡ Some first → list_any (other_kind first.function name) entries ≡ false
 
 -- the present scope, as the code knows it
 abbrev pub IsPresent : Bool → ℕ → List ℕ → Type 0
@@ -50,18 +50,18 @@ HoldsBody false block path entries = Unit {0}
 HoldsBody true block path entries = (name : List ℕ) → symbol_in name block ≡ option_map symbol_of (last_in path name entries)
 
 pub record Holds (s : Scopes) (b : Bindings) : Type 0 where
-  pub file : (name : List ℕ) → symbol_in name s.file.entries ≡ option_map symbol_of (first_external name b.entries)
+  pub file : (name : List ℕ) → symbol_in name s.file.entries ≡ option_map symbol_of (first_linked name b.entries)
   pub body : HoldsBody s.in_body s.body.entries b.path b.entries
   pub present : IsPresent s.in_body b.next b.path
   pub opened : AllOpened b.next b.entries
   pub one_kind : IsOneKind b.entries
 
 abbrev pub answer : ℕ → Bool → Binding
-answer token external = record { denotes = Some (record { token = token; external = external }) }
+answer token linked = record { denotes = Some (record { token = token; linked = linked }) }
 
-abbrev pub external_answer : Option Symbol → Option Binding
-external_answer None = None
-external_answer (Some symbol) = Some (answer symbol.token true)
+abbrev pub linked_answer : Option Symbol → Option Binding
+linked_answer None = None
+linked_answer (Some symbol) = Some (answer symbol.token true)
 
 -- one more declaration of a name at file scope
 abbrev pub again_answer : Symbol → Bool → Option Binding

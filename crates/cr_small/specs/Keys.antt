@@ -16,7 +16,7 @@ key_of_token false t = at t.offset
 
 -- the key of what a token denotes
 abbrev pub key_of : List Token → Denotation → Option Key
-key_of tokens d = option_map (key_of_token d.external) (slice_get tokens d.token)
+key_of tokens d = option_map (key_of_token d.linked) (slice_get tokens d.token)
 
 -- the two keys are one
 abbrev pub is_key : Key → Key → Bool

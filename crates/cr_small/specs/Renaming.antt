@@ -22,7 +22,7 @@ pub record Target : Type 0 where
 
 abbrev pub target_of : List Token → Token → Option Denotation → Option Target
 target_of tokens token None = None
-target_of tokens token (Some d) = option_map (λ key. record { name = token.text; key = key; at_file_scope = d.external }) (key_of tokens d)
+target_of tokens token (Some d) = option_map (λ key. record { name = token.text; key = key; at_file_scope = d.linked }) (key_of tokens d)
 
 abbrev pub target_among : List Token → ℕ → List (Token × Option Denotation) → Option Target
 target_among tokens offset [] = None

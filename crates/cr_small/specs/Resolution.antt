@@ -34,14 +34,14 @@ around (scope ∷ rest) = rest
 
 -- the entity of an entry
 abbrev pub denotation : List Entry → Entry → Denotation
-denotation entries entry = record { token = entity_of entries entry; external = entry.external }
+denotation entries entry = record { token = entity_of entries entry; linked = entry.linked }
 
 abbrev pub unchanged : Bindings → Option Bound
 unchanged b = Some (record { after = b; denotes = None })
 
 -- A declaration takes the present scope. It has external linkage at file scope, and none inside braces (C11 6.2.2p5, p6).
 abbrev pub entry_at : Bindings → Bool → List ℕ → ℕ → Entry
-entry_at b function name token = record { path = b.path; name = name; token = token; function = function; external = is_file_scope b.path }
+entry_at b function name token = record { path = b.path; name = name; token = token; function = function; linked = is_file_scope b.path }
 
 abbrev pub declared : Bindings → Entry → Option Bound
 declared b entry =

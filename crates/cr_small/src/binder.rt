@@ -19,7 +19,7 @@ use std::alloc::Global;
 #[derive(Clone, Copy, Debug, PartialEq, Eq)]
 pub struct Denotation {
     pub token: usize,
-    pub external: bool,
+    pub linked: bool,
 }
 
 /// The entity that one token denotes, if it is an identifier that denotes one.

@@ -44,7 +44,7 @@ fn key_of<'a>(tokens: &[Token<'a>], denoted: Denotation) -> Option<EntityKey<'a>
     ensures { option_map key_of_code result ≡ key_of (map token_of tokens.now) denoted }
 {
     let first = tokens.get(denoted.token)?;
-    Some(if denoted.external {
+    Some(if denoted.linked {
         EntityKey::External(first.text)
     } else {
         EntityKey::At(first.offset)
@@ -81,7 +81,7 @@ fn target_of<'a>(
     Some(Target {
         name: token.text,
         key,
-        at_file_scope: denoted.external,
+        at_file_scope: denoted.linked,
     })
 }
 

@@ -2,7 +2,7 @@
 ghost use Rattle.std.specs.Prelude.{◌≡◌, ◌∷◌, ◌+◌, true, false, Some, None, IfOk, OnOk, if◌then◌else◌};
 ghost use Rattle.cr_small.specs.Resolution.{Bindings, file_scope, around, bound, declared, mentioned, entry_at};
 ghost use Rattle.cr_small.specs.Declarations.{lookup};
-ghost use Rattle.cr_small.specs.Holding.{Answers, Holds, MayStand, level_behind, answer, external_answer, again_answer, symbol_in};
+ghost use Rattle.cr_small.specs.Holding.{Answers, Holds, MayStand, level_behind, answer, linked_answer, again_answer, symbol_in};
 
 use crate::binder::{Binding, Denotation};
 use crate::grammar::Part;
@@ -25,11 +25,11 @@ pub struct Scopes<'a> {
     pub in_body: bool,
 }
 
-fn answer(token: usize, external: bool) -> Binding
-    ensures { result ≡ answer token external }
+fn answer(token: usize, linked: bool) -> Binding
+    ensures { result ≡ answer token linked }
 {
     Binding {
-        denotes: Some(Denotation { token, external }),
+        denotes: Some(Denotation { token, linked }),
     }
 }
 
@@ -142,7 +142,7 @@ impl<'a> Scopes<'a> {
     }
 
     fn mention_file(&self, name: &[u8]) -> Option<Binding>
-        ensures { result ≡ external_answer (symbol_in name.now self.now.file.entries) }
+        ensures { result ≡ linked_answer (symbol_in name.now self.now.file.entries) }
     {
         let symbol = symbol_in(&self.file, name)?;
         Some(answer(symbol.token, true))
