@@ -1,5 +1,5 @@
 -- A rename to a name that a text doesn't have keeps the meaning of the text.
-use Rattle.std.proofs.Common.{◌≡◌, ℕ, ◌+◌, ◌≤◌, Bool, true, false, ◌||◌, List, [], ◌∷◌, length, map, slice_get, Option, Some, None, refl, sym, ap, ◌∙◌, subst, arith, zero, suc}
+use Rattle.std.proofs.Common.{◌≡◌, ℕ, ◌+◌, ◌≤◌, Bool, true, false, not, ◌||◌, List, [], ◌∷◌, length, map, slice_get, Option, Some, None, refl, sym, ap, ◌∙◌, subst, arith, zero, suc}
 use Rattle.std.specs.Prelude.{if◌then◌else◌, bytes_eq}
 use Rattle.std.specs.List.{zip}
 use Rattle.std.specs.Option.{option_map}
@@ -11,12 +11,12 @@ use Rattle.cr_small.specs.Tree.{parts}
 use Rattle.cr_small.specs.Resolution.{file_scope}
 use Rattle.cr_small.specs.Renaming.{has_text}
 use Rattle.cr_small.proofs.Entities.{places_of, denotes_entity}
-use Rattle.cr_small.specs.Keys.{Key, external, at, key_of_token, key_of}
+use Rattle.cr_small.specs.Keys.{Key, external, at, has_external_linkage, key_of_token, key_of}
 use Rattle.cr_small.specs.SmallForm.{IsSmallForm}
 use Rattle.cr_small.specs.KeepsMeaning.{is_place, renamed_token, AreLinked, KeepsMeaning}
 use Rattle.cr_small.specs.declared.grammar.Part.{Part}
 use Rattle.cr_small.specs.declared.binder.Denotation.{Denotation}
-use Rattle.cr_small.proofs.Flat.{bytes_eq-refl}
+use Rattle.cr_small.proofs.Flat.{both, bytes_eq-refl}
 use Rattle.cr_small.proofs.Cuts.{InOrder}
 use Rattle.cr_small.proofs.Names.{AllSpelled, text_of, texts-from, well-spelled, same-length, derived-length}
 use Rattle.cr_small.proofs.Pairs.{resolves-length}
@@ -53,6 +53,10 @@ fresh-each new (t ∷ ts) h = by (bytes_eq t.text new) refl h (fresh-each new ts
     by : (b : Bool) → bytes_eq t.text new ≡ b → (b || has_text new ts) ≡ false → (has_text new ts ≡ false → Each (λ t. bytes_eq t.text new ≡ false) ts) → Each (λ t. bytes_eq t.text new ≡ false) (t ∷ ts)
     by true e g rest = let no : ⊥ = cc in absurd no
     by false e g rest = (e, rest g)
+
+-- external linkage is a linkage
+pub linked-of : (d : Denotation) → has_external_linkage d ≡ true → d.linked ≡ true
+linked-of d h = (both d.linked (not d.internal) h).0
 
 module _ (f : ℕ → List ℕ) (entity : ℕ) (new : List ℕ) (old_word : IsWord (f entity)) (new_word : IsWord new) (places : List ℕ) where
   abbrev after : List Token → List Token
@@ -92,15 +96,15 @@ module _ (f : ℕ → List ℕ) (entity : ℕ) (new : List ℕ) (old_word : IsWo
   all-fresh (t ∷ ts) (p ∷ ps) e = (e.0, all-fresh ts ps e.1)
 
   -- the key of an entity before and after
-  key-found : (ts : List Token) (d : Denotation) (k : Key) → key_of ts d ≡ Some k → (t : Token) × (slice_get ts d.token ≡ Some t) × (k ≡ key_of_token d.linked t)
+  key-found : (ts : List Token) (d : Denotation) (k : Key) → key_of ts d ≡ Some k → (t : Token) × (slice_get ts d.token ≡ Some t) × (k ≡ key_of_token (has_external_linkage d) t)
   key-found ts d k h = by (slice_get ts d.token) refl h
     where
-      by : (o : Option Token) → slice_get ts d.token ≡ o → option_map (key_of_token d.linked) o ≡ Some k → (t : Token) × (slice_get ts d.token ≡ Some t) × (k ≡ key_of_token d.linked t)
+      by : (o : Option Token) → slice_get ts d.token ≡ o → option_map (key_of_token (has_external_linkage d)) o ≡ Some k → (t : Token) × (slice_get ts d.token ≡ Some t) × (k ≡ key_of_token (has_external_linkage d) t)
       by None e g = let no : ⊥ = cc in absurd no
-      by (Some t) e g = (t, e, let same : key_of_token d.linked t ≡ k = cc in sym same)
+      by (Some t) e g = (t, e, let same : key_of_token (has_external_linkage d) t ≡ k = cc in sym same)
 
-  key-after : (ts : List Token) (d : Denotation) (t : Token) → slice_get ts d.token ≡ Some t → key_of (after ts) d ≡ Some (key_of_token d.linked (renamed_token places (f entity) new t))
-  key-after ts d t h = ap (option_map (key_of_token d.linked)) (slice_get-map (renamed_token places (f entity) new) ts d.token ∙ ap (option_map (renamed_token places (f entity) new)) h)
+  key-after : (ts : List Token) (d : Denotation) (t : Token) → slice_get ts d.token ≡ Some t → key_of (after ts) d ≡ Some (key_of_token (has_external_linkage d) (renamed_token places (f entity) new t))
+  key-after ts d t h = ap (option_map (key_of_token (has_external_linkage d))) (slice_get-map (renamed_token places (f entity) new) ts d.token ∙ ap (option_map (renamed_token places (f entity) new)) h)
 
   key-before : (ts : List Token) (d : Denotation) (u : Token) → slice_get (after ts) d.token ≡ Some u → (t : Token) × (slice_get ts d.token ≡ Some t) × (renamed_token places (f entity) new t ≡ u)
   key-before ts d u h = by (slice_get ts d.token) refl (sym (slice_get-map (renamed_token places (f entity) new) ts d.token) ∙ h)
@@ -110,11 +114,11 @@ module _ (f : ℕ → List ℕ) (entity : ℕ) (new : List ℕ) (old_word : IsWo
       by (Some t) e g = (t, e, cc)
 
   -- entities of one key have one key afterwards
-  keys-follow : (ts : List Token) (d e : Denotation) (t u : Token) (x y : Bool) → d.linked ≡ x → e.linked ≡ y → AreAlike f entity new d e → (f d.token ≡ t.text) → (f e.token ≡ u.text)
+  keys-follow : (ts : List Token) (d e : Denotation) (t u : Token) (x y : Bool) → has_external_linkage d ≡ x → has_external_linkage e ≡ y → AreAlike f entity new d e → (f d.token ≡ t.text) → (f e.token ≡ u.text)
       → slice_get ts d.token ≡ Some t → slice_get ts e.token ≡ Some u → key_of_token x t ≡ key_of_token y u → key_of_token x (renamed_token places (f entity) new t) ≡ key_of_token y (renamed_token places (f entity) new u)
   keys-follow ts d e t u true true p q alike m n h k same =
       let names : t.text ≡ u.text = cc in
-      let one = alike p q (m ∙ names ∙ sym n) in
+      let one = alike (linked-of d p) (linked-of e q) (m ∙ names ∙ sym n) in
       let v : Some t ≡ Some u = sym h ∙ ap (slice_get ts) one ∙ k in
       let w : t ≡ u = cc in
       ap (λ z. key_of_token true (renamed_token places (f entity) new z)) w
@@ -155,8 +159,8 @@ module _ (f : ℕ → List ℕ) (entity : ℕ) (new : List ℕ) (old_word : IsWo
       let t = key-found ts d k one in
       let u = key-found ts e k other in
       let alike = alike-at f entity new ds i j d e pairs at_i at_j in
-      let same = keys-follow ts d e t.0 u.0 d.linked e.linked refl refl alike (ap (λ g. g d.token) is ∙ text_of-get ts d.token t.0 t.1) (ap (λ g. g e.token) is ∙ text_of-get ts e.token u.0 u.1) t.1 u.1 (sym t.2 ∙ u.2) in
-      (d, e, at_i, at_j, key_of_token d.linked (renamed_token places (f entity) new t.0), key-after ts d t.0 t.1, key-after ts e u.0 u.1 ∙ ap (λ z. Some z) (sym same))
+      let same = keys-follow ts d e t.0 u.0 (has_external_linkage d) (has_external_linkage e) refl refl alike (ap (λ g. g d.token) is ∙ text_of-get ts d.token t.0 t.1) (ap (λ g. g e.token) is ∙ text_of-get ts e.token u.0 u.1) t.1 u.1 (sym t.2 ∙ u.2) in
+      (d, e, at_i, at_j, key_of_token (has_external_linkage d) (renamed_token places (f entity) new t.0), key-after ts d t.0 t.1, key-after ts e u.0 u.1 ∙ ap (λ z. Some z) (sym same))
 
   links-back : (ts : List Token) (ds : List (Option Denotation)) (i j end : ℕ) → InOrder 0 (after ts) end → Each HasText (after ts) → Each (λ t. is_place places t.offset ≡ true → t.text ≡ f entity) ts → Each (λ t. bytes_eq t.text new ≡ false) ts
       → AreLinked (after ts) ds i j → AreLinked ts ds i j
@@ -165,12 +169,12 @@ module _ (f : ℕ → List ℕ) (entity : ℕ) (new : List ℕ) (old_word : IsWo
       let w = key-found (after ts) e k other in
       let t = key-before ts d v.0 v.1 in
       let u = key-before ts e w.0 w.1 in
-      let now : key_of_token d.linked (renamed_token places (f entity) new t.0) ≡ key_of_token e.linked (renamed_token places (f entity) new u.0) =
-      ap (key_of_token d.linked) t.2 ∙ sym v.2 ∙ w.2 ∙ ap (key_of_token e.linked) (sym u.2) in
-      let same = keys-back ts end d e t.0 u.0 d.linked e.linked order texts
+      let now : key_of_token (has_external_linkage d) (renamed_token places (f entity) new t.0) ≡ key_of_token (has_external_linkage e) (renamed_token places (f entity) new u.0) =
+      ap (key_of_token (has_external_linkage d)) t.2 ∙ sym v.2 ∙ w.2 ∙ ap (key_of_token (has_external_linkage e)) (sym u.2) in
+      let same = keys-back ts end d e t.0 u.0 (has_external_linkage d) (has_external_linkage e) order texts
       (Each-get (λ t. is_place places t.offset ≡ true → t.text ≡ f entity) ts d.token t.0 spelled t.1) (Each-get (λ t. is_place places t.offset ≡ true → t.text ≡ f entity) ts e.token u.0 spelled u.1)
       (Each-get (λ t. bytes_eq t.text new ≡ false) ts d.token t.0 fresh t.1) (Each-get (λ t. bytes_eq t.text new ≡ false) ts e.token u.0 fresh u.1) t.1 u.1 now in
-      (d, e, at_i, at_j, key_of_token d.linked t.0, ap (option_map (key_of_token d.linked)) t.1, ap (option_map (key_of_token e.linked)) u.1 ∙ ap (λ z. Some z) (sym same))
+      (d, e, at_i, at_j, key_of_token (has_external_linkage d) t.0, ap (option_map (key_of_token (has_external_linkage d))) t.1, ap (option_map (key_of_token (has_external_linkage e))) u.1 ∙ ap (λ z. Some z) (sym same))
 
 -- the places of an entity can be renamed
 pub keeping_entity : (bytes new : List ℕ) (denotes : List (Option Denotation)) (entity : ℕ) → IsSmallForm (cut 0 bytes) denotes → is_name (text_of (cut 0 bytes) entity) ≡ true → is_name new ≡ true → has_text new (cut 0 bytes) ≡ false

@@ -9,7 +9,7 @@ use Rattle.cr_small.specs.Tokens.{Token, cut}
 use Rattle.cr_small.specs.Terminals.{is_name}
 use Rattle.cr_small.specs.Tree.{parts}
 use Rattle.cr_small.specs.Resolution.{file_scope}
-use Rattle.cr_small.specs.Keys.{Key, external, at, key_of_token, key_of, is_key}
+use Rattle.cr_small.specs.Keys.{Key, external, at, has_external_linkage, key_of_token, key_of, is_key}
 use Rattle.cr_small.specs.Renaming.{has_key, denotes_key, places_of, has_text}
 use Rattle.cr_small.specs.SmallForm.{IsSmallForm, IsWellFormed}
 use Rattle.cr_small.specs.KeepsMeaning.{is_place, renamed_token, KeepsMeaning}
@@ -17,7 +17,7 @@ use Rattle.cr_small.specs.Laws.{IsNameOf, renamed, moved_key, RenamingKeepsMeani
 use Rattle.cr_small.specs.declared.binder.Denotation.{Denotation}
 use Rattle.cr_small.proofs.Entities.{denotes_entity, places_of as entity_places}
 use Rattle.cr_small.proofs.Flags.{flag_at, all-flagged, flagged-get}
-use Rattle.cr_small.proofs.Keeping.{distinct, text_of-get, fresh-each, all-fresh, keeping_entity}
+use Rattle.cr_small.proofs.Keeping.{distinct, text_of-get, fresh-each, all-fresh, keeping_entity, linked-of}
 use Rattle.cr_small.proofs.KeyLaws.{keyed, keyed_so, Keyed, keyed-at, named, order, texts, spelled-get}
 use Rattle.cr_small.proofs.Links.{pairs-alike, alike-at}
 use Rattle.cr_small.proofs.Moved.{PlacedAs, placed-text}
@@ -113,7 +113,7 @@ module _ (bytes name new : List ℕ) (key : Key) (ds : List (Option Denotation))
     -- denotations of one key are of one entity
     same-entity : (j : ℕ) (e : Denotation) → slice_get ds j ≡ Some (Some e) → key_of ts e ≡ Some key → e.token ≡ entity
     same-entity j e h k =
-        by e.linked w.1.linked refl refl (let eq : Some (key_of_token e.linked other.first) ≡ Some (key_of_token w.1.linked one.first) = sym other.key ∙ k ∙ sym own_key ∙ one.key in let keys : key_of_token e.linked other.first ≡ key_of_token w.1.linked one.first = cc in keys)
+        by (has_external_linkage e) (has_external_linkage w.1) refl refl (let eq : Some (key_of_token (has_external_linkage e) other.first) ≡ Some (key_of_token (has_external_linkage w.1) one.first) = sym other.key ∙ k ∙ sym own_key ∙ one.key in let keys : key_of_token (has_external_linkage e) other.first ≡ key_of_token (has_external_linkage w.1) one.first = cc in keys)
       where
         other : Keyed ts j e
         other = keyed-at ts ds j e small h
@@ -121,14 +121,14 @@ module _ (bytes name new : List ℕ) (key : Key) (ds : List (Option Denotation))
         f : ℕ → List ℕ
         f = text_of ts
 
-        alike : e.linked ≡ true → w.1.linked ≡ true → f e.token ≡ f entity → e.token ≡ entity
-        alike = alike-at (text_of ts) entity new ds j w.0 e w.1
-          (pairs-alike (text_of ts) entity new (zip ts (parts small.1.0)) 0 file_scope ds tt
-          (all-fresh (text_of ts) entity new (word-of-name (text_of ts entity) old_name) (word-of-name new new_name) [] ts (parts small.1.0) (fresh-each new ts fresh))
-          (texts-from ts (parts small.1.0) (text_of ts) 0 (λ n. ap (text_of ts) (let q : 0 + n ≡ n = omega arith in q))) small.1.1.1)
-          h w.2
+        alike : has_external_linkage e ≡ true → has_external_linkage w.1 ≡ true → f e.token ≡ f entity → e.token ≡ entity
+        alike p q g = alike-at (text_of ts) entity new ds j w.0 e w.1
+            (pairs-alike (text_of ts) entity new (zip ts (parts small.1.0)) 0 file_scope ds tt
+            (all-fresh (text_of ts) entity new (word-of-name (text_of ts entity) old_name) (word-of-name new new_name) [] ts (parts small.1.0) (fresh-each new ts fresh))
+            (texts-from ts (parts small.1.0) (text_of ts) 0 (λ n. ap (text_of ts) (let q : 0 + n ≡ n = omega arith in q))) small.1.1.1)
+            h w.2 (linked-of e p) (linked-of w.1 q) g
 
-        by : (x y : Bool) → e.linked ≡ x → w.1.linked ≡ y → key_of_token x other.first ≡ key_of_token y one.first → e.token ≡ entity
+        by : (x y : Bool) → has_external_linkage e ≡ x → has_external_linkage w.1 ≡ y → key_of_token x other.first ≡ key_of_token y one.first → e.token ≡ entity
         by true true p q g = let names : other.first.text ≡ one.first.text = cc in alike p q (text_of-get ts e.token other.first other.first_at ∙ names ∙ sym (text_of-get ts entity one.first one.first_at))
         by true false p q g = let bad : ⊥ = cc in absurd bad
         by false true p q g = let bad : ⊥ = cc in absurd bad
@@ -136,9 +136,9 @@ module _ (bytes name new : List ℕ) (key : Key) (ds : List (Option Denotation))
 
     same-key : (j : ℕ) (e : Denotation) → slice_get ds j ≡ Some (Some e) → e.token ≡ entity → key_of ts e ≡ Some key
     same-key j e h same =
-        let flags = all-flagged (zip ts (parts small.1.0)) file_scope ds tt small.1.1.1 in
-        let linkage : e.linked ≡ w.1.linked = sym (flagged-get (flag_at ds) ds j e flags h) ∙ ap (flag_at ds) same ∙ flagged-get (flag_at ds) ds w.0 w.1 flags w.2 in
-        ap (λ x. option_map (key_of_token x) (slice_get ts e.token)) linkage ∙ ap (λ n. option_map (key_of_token w.1.linked) (slice_get ts n)) same ∙ own_key
+        let flags = all-flagged (zip ts (parts small.1.0)) file_scope ds (tt, tt) small.1.1.1 in
+        let linkage : has_external_linkage e ≡ has_external_linkage w.1 = sym (flagged-get (flag_at ds) ds j e flags h) ∙ ap (flag_at ds) same ∙ flagged-get (flag_at ds) ds w.0 w.1 flags w.2 in
+        ap (λ x. option_map (key_of_token x) (slice_get ts e.token)) linkage ∙ ap (λ n. option_map (key_of_token (has_external_linkage w.1)) (slice_get ts n)) same ∙ own_key
 
     -- a token denotes an entity of the key just where it denotes that entity
     is-entity : (j : ℕ) (x : Option Denotation) → slice_get ds j ≡ Some x → denotes_key ts key x ≡ denotes_entity entity x
@@ -201,9 +201,9 @@ module _ (bytes name new : List ℕ) (key : Key) (ds : List (Option Denotation))
 
   pub moved : (i : ℕ) (d : Denotation) → slice_get ds i ≡ Some (Some d) → key_of (cut 0 (renamed bytes name key ds new)) d ≡ option_map (moved_key key (places_of key ts ds) name new) (key_of ts d)
   moved i d h =
-      ap (λ l. option_map (key_of_token d.linked) (slice_get l d.token)) kept.0.tokens
-      ∙ ap (option_map (key_of_token d.linked)) (slice_get-map r ts d.token ∙ ap (option_map r) own.first_at)
-      ∙ by d.linked refl
+      ap (λ l. option_map (key_of_token (has_external_linkage d)) (slice_get l d.token)) kept.0.tokens
+      ∙ ap (option_map (key_of_token (has_external_linkage d))) (slice_get-map r ts d.token ∙ ap (option_map r) own.first_at)
+      ∙ by (has_external_linkage d) refl
       ∙ sym (ap (option_map (moved_key key (places_of key ts ds) name new)) own.key)
     where
       r : Token → Token
@@ -224,7 +224,7 @@ module _ (bytes name new : List ℕ) (key : Key) (ds : List (Option Denotation))
       at_place : denotes_key ts key (Some d) ≡ is_place (places_of key ts ds) own.own.offset
       at_place = sym (placed i own.own d own.own_at h)
 
-      by : (x : Bool) → d.linked ≡ x → Some (key_of_token x (r own.first)) ≡ Some (moved_key key (places_of key ts ds) name new (key_of_token x own.first))
+      by : (x : Bool) → has_external_linkage d ≡ x → Some (key_of_token x (r own.first)) ≡ Some (moved_key key (places_of key ts ds) name new (key_of_token x own.first))
       by false e = refl
       by true e = ap (λ n. Some (external n)) text ∙ go (is_place (places_of key ts ds) own.own.offset) refl
         where

@@ -10,7 +10,7 @@ use Rattle.cr_small.specs.Terminals.{is_name, has_plain_names, terminal_of}
 use Rattle.cr_small.specs.Tree.{parts}
 use Rattle.cr_small.specs.Machine.{step}
 use Rattle.cr_small.specs.Resolution.{file_scope, resolved}
-use Rattle.cr_small.specs.Keys.{Key, external, at, key_of_token, key_of, is_key}
+use Rattle.cr_small.specs.Keys.{Key, external, at, has_external_linkage, key_of_token, key_of, is_key}
 use Rattle.cr_small.specs.Renaming.{Target, target_of, target_among, target_at, covers, has_key, denotes_key, places_among, places_of}
 use Rattle.cr_small.specs.SmallForm.{IsSmallForm, Resolves}
 use Rattle.cr_small.specs.Laws.{IsNameOf, PlacesRise, HasPlace, NamesItsKey, Decided}
@@ -98,14 +98,14 @@ pub record Keyed (ts : List Token) (i : ℕ) (d : Denotation) : Type 0 where
   pub first : Token
   pub first_at : slice_get ts d.token ≡ Some first
   pub alike : first.text ≡ own.text
-  pub key : key_of ts d ≡ Some (key_of_token d.linked first)
+  pub key : key_of ts d ≡ Some (key_of_token (has_external_linkage d) first)
 
 pub keyed-at : (ts : List Token) (ds : List (Option Denotation)) (i : ℕ) (d : Denotation) → IsSmallForm ts ds → slice_get ds i ≡ Some (Some d) → Keyed ts i d
 keyed-at ts ds i d small h =
     let t = token-at ts ds i (Some d) (resolves-length ts ds small) h in
     let name = name-get ts ds i t.0 d (well-named ts small.1.0 ds small.1.1) t.1 h in
     let u = first-token ts d.token t.0.text (spelled-get (text_of ts) ts ds i t.0 d (well-spelled ts small.1.0 ds small.1.1) t.1 h) name in
-    record { own = t.0; own_at = t.1; name = name; first = u.0; first_at = u.1; alike = u.2; key = ap (option_map (key_of_token d.linked)) u.1 }
+    record { own = t.0; own_at = t.1; name = name; first = u.0; first_at = u.1; alike = u.2; key = ap (option_map (key_of_token (has_external_linkage d))) u.1 }
 
 -- what stands at an offset is one of the tokens
 pub record Found (ts : List Token) (ds : List (Option Denotation)) (target : Target) : Type 0 where
@@ -144,7 +144,7 @@ found-at ts ds offset target h = found-among ts offset target ts ds h
 
 -- two tokens of one key are spelled alike
 same-text : (ts : List Token) (i j end : ℕ) (d e : Denotation) → InOrder 0 ts end → Each HasText ts → (k : Keyed ts i d) (l : Keyed ts j e) → key_of ts d ≡ key_of ts e → k.own.text ≡ l.own.text
-same-text ts i j end d e order texts k l same = by d.linked e.linked (let eq : Some (key_of_token d.linked k.first) ≡ Some (key_of_token e.linked l.first) = sym k.key ∙ same ∙ l.key in let keys : key_of_token d.linked k.first ≡ key_of_token e.linked l.first = cc in keys)
+same-text ts i j end d e order texts k l same = by (has_external_linkage d) (has_external_linkage e) (let eq : Some (key_of_token (has_external_linkage d) k.first) ≡ Some (key_of_token (has_external_linkage e) l.first) = sym k.key ∙ same ∙ l.key in let keys : key_of_token (has_external_linkage d) k.first ≡ key_of_token (has_external_linkage e) l.first = cc in keys)
   where
     by : (x y : Bool) → key_of_token x k.first ≡ key_of_token y l.first → k.own.text ≡ l.own.text
     by true true h = let names : k.first.text ≡ l.first.text = cc in sym k.alike ∙ names ∙ l.alike
@@ -169,7 +169,7 @@ module _ (bytes : List ℕ) (ds : List (Option Denotation)) (small : IsSmallForm
 
   -- the name of a key is that of each token which denotes its entity
   pub named : (name : List ℕ) (key : Key) (i : ℕ) (d : Denotation) → IsNameOf name key ts ds → (h : slice_get ds i ≡ Some (Some d)) → key_of ts d ≡ Some key → (keyed-at ts ds i d small h).own.text ≡ name
-  named name key i d (inl is) h k = by d.linked (let eq : Some (key_of_token d.linked one.first) ≡ Some key = sym one.key ∙ k in let keys : key_of_token d.linked one.first ≡ key = cc in keys ∙ is)
+  named name key i d (inl is) h k = by (has_external_linkage d) (let eq : Some (key_of_token (has_external_linkage d) one.first) ≡ Some key = sym one.key ∙ k in let keys : key_of_token (has_external_linkage d) one.first ≡ key = cc in keys ∙ is)
     where
       one : Keyed ts i d
       one = keyed-at ts ds i d small h

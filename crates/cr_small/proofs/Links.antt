@@ -5,6 +5,7 @@ use Rattle.std.specs.Option.{option_map, option_or, option_and_then, is_some}
 use Rattle.cr_small.specs.Tokens.{Token}
 use Rattle.cr_small.specs.Declarations.{Entry, lookup, is_linked, first_linked, token_or, entity_of, is_redeclared}
 use Rattle.cr_small.specs.Resolution.{Bindings, Bound, bound, resolved, declared, denotation, entry_at, mentioned}
+use Rattle.cr_small.specs.declared.grammar.Storage.{Storage}
 use Rattle.cr_small.specs.declared.grammar.Part.{Part}
 use Rattle.cr_small.specs.declared.grammar.Part.TheVariants as part
 use Rattle.cr_small.specs.declared.binder.Denotation.{Denotation}
@@ -41,12 +42,12 @@ module _ (f : ℕ → List ℕ) (entity : ℕ) (new : List ℕ) where
   Settles b None = Unit {0}
   Settles b (Some e) = ((d : Denotation) → IsSettled b.entries d → IsSettled e.after.entries d) × SettledIf e.after.entries e.denotes
 
-  declared-settles : (b : Bindings) (n : ℕ) (text : List ℕ) (function : Bool) → All (IsKnown f entity new b.entries) b.entries → IsFresh f entity new text → f n ≡ text → Settles b (declared b (entry_at b function text n))
-  declared-settles b n text function all fresh own = by (is_redeclared b.entries (entry_at b function text n))
+  declared-settles : (b : Bindings) (n : ℕ) (text : List ℕ) (function : Bool) (word : Option Storage) → All (IsKnown f entity new b.entries) b.entries → IsFresh f entity new text → f n ≡ text → Settles b (declared b (entry_at b function word text n))
+  declared-settles b n text function word all fresh own = by (is_redeclared b.entries (entry_at b function word text n))
     where
-      by : (x : Bool) → Settles b (if x then None else Some (record { after = record { entries = b.entries ++ entry_at b function text n ∷ []; path = b.path; next = b.next }; denotes = Some (denotation (b.entries ++ entry_at b function text n ∷ []) (entry_at b function text n)) }))
+      by : (x : Bool) → Settles b (if x then None else Some (record { after = record { entries = b.entries ++ entry_at b function word text n ∷ []; path = b.path; next = b.next }; denotes = Some (denotation (b.entries ++ entry_at b function word text n ∷ []) (entry_at b function word text n)) }))
       by true = tt
-      by false = (λ d h. settled-push b.entries (entry_at b function text n) d h, denotation-settled (b.entries ++ entry_at b function text n ∷ []) (entry_at b function text n) (known-push f entity new b.entries (entry_at b function text n) all own fresh) (known-self f entity new b.entries (entry_at b function text n) own fresh))
+      by false = (λ d h. settled-push b.entries (entry_at b function word text n) d h, denotation-settled (b.entries ++ entry_at b function word text n ∷ []) (entry_at b function word text n) (known-push f entity new b.entries (entry_at b function word text n) all own fresh) (known-self f entity new b.entries (entry_at b function word text n) own fresh))
 
   mentioned-settles : (b : Bindings) (text : List ℕ) (o : Option Entry) → All (IsKnown f entity new b.entries) b.entries → lookup b.entries text b.path ≡ o → Settles b (mentioned b o)
   mentioned-settles b text None all h = tt
@@ -56,8 +57,8 @@ module _ (f : ℕ → List ℕ) (entity : ℕ) (new : List ℕ) where
   bound-settles b n text part.Plain all fresh own = (λ d k. k, tt)
   bound-settles b n text part.Opens all fresh own = (λ d k. k, tt)
   bound-settles b n text part.Closes all fresh own = (λ d k. k, tt)
-  bound-settles b n text part.DeclaresObject all fresh own = declared-settles b n text false all fresh own
-  bound-settles b n text part.DeclaresFunction all fresh own = declared-settles b n text true all fresh own
+  bound-settles b n text (part.DeclaresObject word) all fresh own = declared-settles b n text false word all fresh own
+  bound-settles b n text (part.DeclaresFunction word) all fresh own = declared-settles b n text true word all fresh own
   bound-settles b n text part.Mentions all fresh own = mentioned-settles b text (lookup b.entries text b.path) all refl
 
   -- entities with linkage of one name are one

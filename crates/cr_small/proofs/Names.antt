@@ -113,8 +113,8 @@ module _ (text_at : ℕ → List ℕ) where
   bound-named b n name part.Plain all own = (all, tt)
   bound-named b n name part.Opens all own = (all, tt)
   bound-named b n name part.Closes all own = (all, tt)
-  bound-named b n name part.DeclaresObject all own = declared-named b (entry_at b false name n) all own
-  bound-named b n name part.DeclaresFunction all own = declared-named b (entry_at b true name n) all own
+  bound-named b n name (part.DeclaresObject word) all own = declared-named b (entry_at b false word name n) all own
+  bound-named b n name (part.DeclaresFunction word) all own = declared-named b (entry_at b true word name n) all own
   bound-named b n name part.Mentions all own = mentioned-named b name (lookup b.entries name b.path) refl all
 
   -- each token that denotes an entity is spelled as the entity's first declaring token

@@ -63,8 +63,8 @@ reads-object l init rest h = by l (subst (Reads (state.Initialiser l)) (sym (app
     by : (l : Level) → Reads (state.Initialiser l) (initialiser_leaves init ++ semicolon ∷ [] ++ rest) → Reads (state.Start l) (object_leaves init ++ rest)
     by level.File g =
         let shut : opens_next (terminals (initialiser_leaves init ++ semicolon ∷ [] ++ rest)) ≡ false = rw (append_assoc (initialiser_leaves init) (semicolon ∷ []) rest) (initialiser_shut init rest) in
-        in_front (plain terminal.Int) _ _ (rw shut (in_front (name_that part.DeclaresObject) _ _ g))
-    by level.Block g = in_front (plain terminal.Int) _ _ (in_front (name_that part.DeclaresObject) _ _ g)
+        in_front (plain terminal.Int) _ _ (rw shut (in_front (name_that (part.DeclaresObject None)) _ _ g))
+    by level.Block g = in_front (plain terminal.Int) _ _ (in_front (name_that (part.DeclaresObject None)) _ _ g)
 
 reads-evaluates : (sum : Sum) (tail : List Leaf) → Reads (state.Item level.Block) (item_leaves sum.first ++ tail) → Reads (state.Start level.Block) (item_leaves sum.first ++ tail)
 reads-evaluates sum tail h = by sum.first h
@@ -93,7 +93,7 @@ reads-statements (s ∷ ss) rest h =
 
 reads-function : (rest : List Leaf) → Reads state.Body rest → Reads (state.Start level.File) (function_leaves ++ rest)
 reads-function rest h =
-    in_front (plain terminal.Int) _ _ (in_front (name_that part.DeclaresFunction) _ _ (in_front (plain terminal.Open) _ _ (in_front (plain terminal.Void) _ _ (in_front (plain terminal.Close) rest _ h))))
+    in_front (plain terminal.Int) _ _ (in_front (name_that (part.DeclaresFunction None)) _ _ (in_front (plain terminal.Open) _ _ (in_front (plain terminal.Void) _ _ (in_front (plain terminal.Close) rest _ h))))
 
 reads-external : (e : External) (rest : List Leaf) → Reads (state.Start level.File) rest → Reads (state.Start level.File) (external_leaves e ++ rest)
 reads-external (object init) rest h = reads-object level.File init rest h
@@ -123,9 +123,9 @@ BehindName l ls = (init : Option Sum) × (rest : List Leaf) × (ls ≡ initialis
 
 abbrev AtName : Level → List Leaf → Type 0
 AtName level.File ls =
-    ((rest : List Leaf) × (ls ≡ name_that part.DeclaresObject ∷ rest) × BehindName level.File rest)
-    ⊎ ((rest : List Leaf) × (ls ≡ name_that part.DeclaresFunction ∷ plain terminal.Open ∷ plain terminal.Void ∷ plain terminal.Close ∷ rest) × BehindHead rest)
-AtName level.Block ls = (rest : List Leaf) × (ls ≡ name_that part.DeclaresObject ∷ rest) × BehindName level.Block rest
+    ((rest : List Leaf) × (ls ≡ name_that (part.DeclaresObject None) ∷ rest) × BehindName level.File rest)
+    ⊎ ((rest : List Leaf) × (ls ≡ name_that (part.DeclaresFunction None) ∷ plain terminal.Open ∷ plain terminal.Void ∷ plain terminal.Close ∷ rest) × BehindHead rest)
+AtName level.Block ls = (rest : List Leaf) × (ls ≡ name_that (part.DeclaresObject None) ∷ rest) × BehindName level.Block rest
 
 abbrev AtItem : Level → List Leaf → Type 0
 AtItem l ls = (item : Item) × (rest : List Leaf) × (ls ≡ item_leaves item ++ rest) × BehindItem l rest
@@ -171,14 +171,14 @@ begun-returns ls a =
     subst (λ r. Begun level.Block (plain terminal.Return ∷ r)) (sym e) (begun-statement (returns (record { first = a.0; more = a.3.0 })) a.3.1 a.3.3)
 
 -- an object's name and what is behind it
-object-rest : (l : Level) (ls rest : List Leaf) (b : BehindName l rest) → ls ≡ name_that part.DeclaresObject ∷ rest → plain terminal.Int ∷ ls ≡ object_leaves b.0 ++ b.1
+object-rest : (l : Level) (ls rest : List Leaf) (b : BehindName l rest) → ls ≡ name_that (part.DeclaresObject None) ∷ rest → plain terminal.Int ∷ ls ≡ object_leaves b.0 ++ b.1
 object-rest l ls rest b e =
-    ap (λ r. plain terminal.Int ∷ r) (e ∙ ap (λ r. name_that part.DeclaresObject ∷ r) (b.2 ∙ sym (append_assoc (initialiser_leaves b.0) (semicolon ∷ []) b.1)))
+    ap (λ r. plain terminal.Int ∷ r) (e ∙ ap (λ r. name_that (part.DeclaresObject None) ∷ r) (b.2 ∙ sym (append_assoc (initialiser_leaves b.0) (semicolon ∷ []) b.1)))
 
 begun-object : (ls : List Leaf) → AtName level.Block ls → Begun level.Block (plain terminal.Int ∷ ls)
 begun-object ls a = subst (Begun level.Block) (sym (object-rest level.Block ls a.0 a.2 a.1)) (begun-statement (local a.2.0) a.2.1 a.2.3)
 
-function-rest : (ls rest : List Leaf) → ls ≡ name_that part.DeclaresFunction ∷ plain terminal.Open ∷ plain terminal.Void ∷ plain terminal.Close ∷ rest → plain terminal.Int ∷ ls ≡ function_leaves ++ rest
+function-rest : (ls rest : List Leaf) → ls ≡ name_that (part.DeclaresFunction None) ∷ plain terminal.Open ∷ plain terminal.Void ∷ plain terminal.Close ∷ rest → plain terminal.Int ∷ ls ≡ function_leaves ++ rest
 function-rest ls rest e = ap (λ r. plain terminal.Int ∷ r) e
 
 begun-head : (rest : List Leaf) → BehindHead rest → Begun level.File (function_leaves ++ rest)
@@ -211,7 +211,7 @@ start-back level.Block terminal.End calls = λ ls r. ([], r.0, ap (λ x. closing
 start-back level.Block t calls = evaluates-back t (item level.Block t calls) (item-back level.Block t calls)
 
 declarator-back : (l : Level) (calls : Bool) → Follows (state.Declarator l) terminal.Name (Some (declarator l calls))
-declarator-back level.File true = λ ls r. inr (r.0, ap (λ x. name_that part.DeclaresFunction ∷ x) r.1, r.2)
+declarator-back level.File true = λ ls r. inr (r.0, ap (λ x. name_that (part.DeclaresFunction None) ∷ x) r.1, r.2)
 declarator-back level.File false = λ ls r. inl (ls, refl, r)
 declarator-back level.Block calls = λ ls r. (ls, refl, r)
 

@@ -4,9 +4,10 @@ use Rattle.std.specs.Prelude.{if◌then◌else◌, bytes_eq, ◌==◌}
 use Rattle.std.specs.List.{list_any, find}
 use Rattle.std.specs.Option.{option_map, option_or, option_and_then, is_some}
 use Rattle.cr_small.specs.Tokens.{Token}
-use Rattle.cr_small.specs.Declarations.{Entry, is_in, last_in, lookup, is_linked, first_linked, token_or, entity_of, both_or_neither, clashes, is_redeclared}
+use Rattle.cr_small.specs.Declarations.{Entry, is_in, last_in, lookup, is_linked, first_linked, token_or, entity_of, is_internal, is_seen_internal, is_second, are_opposite, clashes, is_redeclared}
 use Rattle.cr_small.specs.Resolution.{Bindings, Bound, bound, resolved, declared, mentioned, denotation, entry_at, is_file_scope}
 use Rattle.cr_small.proofs.Entities.{denotes_entity}
+use Rattle.cr_small.specs.declared.grammar.Storage.{Storage}
 use Rattle.cr_small.specs.declared.grammar.Part.{Part}
 use Rattle.cr_small.specs.declared.grammar.Part.TheVariants as part
 use Rattle.cr_small.specs.declared.binder.Denotation.{Denotation}
@@ -101,7 +102,7 @@ lookup-some r (scope ∷ out) name name' es e a h n = by (last_in (scope ∷ out
 module _ (f : ℕ → List ℕ) (entity : ℕ) (new : List ℕ) where
   -- an entry with the new name, if it declares the entity
   abbrev pub rename : List Entry → Entry → Entry
-  rename es e = record { path = e.path; name = if entity_of es e == entity then new else e.name; token = e.token; function = e.function; linked = e.linked }
+  rename es e = record { path = e.path; name = if entity_of es e == entity then new else e.name; token = e.token; function = e.function; linked = e.linked; internal = e.internal }
 
   -- what is known of each entry: it is named as its token is spelled, not by the new name, and is known by its name if it has linkage
   abbrev pub IsFresh : List ℕ → Type 0
@@ -168,7 +169,7 @@ module _ (f : ℕ → List ℕ) (entity : ℕ) (new : List ℕ) where
           ∙ tokens (first_linked e.name es)
 
   denotation-kept : (es : List Entry) (e : Entry) → All (IsKnown es) es → IsKnown es e → denotation (map (rename es) es) (rename es e) ≡ denotation es e
-  denotation-kept es e all k = ap {B = Denotation} (λ t. record { token = t; linked = e.linked }) (entity-kept es e all k)
+  denotation-kept es e all k = ap {B = Denotation} (λ t. record { token = t; linked = e.linked; internal = e.internal }) (entity-kept es e all k)
 
   -- one declaration more leaves the entities of the others
   some-push : (es : List Entry) (new_one : Entry) (name : List ℕ) → is_some (first_linked name es) ≡ true → first_linked name (es ++ new_one ∷ []) ≡ first_linked name es
@@ -186,7 +187,7 @@ module _ (f : ℕ → List ℕ) (entity : ℕ) (new : List ℕ) where
       by true x = ap (token_or e.token) (some-push es new_one e.name (k.2 x))
 
   rename-push : (es : List Entry) (new_one e : Entry) → IsKnown es e → rename (es ++ new_one ∷ []) e ≡ rename es e
-  rename-push es new_one e k = ap {B = Entry} (λ t. record { path = e.path; name = if t == entity then new else e.name; token = e.token; function = e.function; linked = e.linked }) (entity-push es new_one e k)
+  rename-push es new_one e k = ap {B = Entry} (λ t. record { path = e.path; name = if t == entity then new else e.name; token = e.token; function = e.function; linked = e.linked; internal = e.internal }) (entity-push es new_one e k)
 
   renamed-push : (es : List Entry) (e : Entry) → All (IsKnown es) es → map (rename (es ++ e ∷ [])) (es ++ e ∷ []) ≡ map (rename es) es ++ rename (es ++ e ∷ []) e ∷ []
   renamed-push es e all =
@@ -201,10 +202,13 @@ module _ (f : ℕ → List ℕ) (entity : ℕ) (new : List ℕ) where
       by None h = ap (λ b. is_some (if b then Some e else None)) h
       by (Some w) h = refl
 
+  still-known : (es : List Entry) (new_one e : Entry) → IsKnown es e → IsKnown (es ++ new_one ∷ []) e
+  still-known es new_one e k = (k.0, k.1, λ x. ap is_some (some-push es new_one e.name (k.2 x)) ∙ k.2 x)
+
   pub known-push : (es : List Entry) (e : Entry) → All (IsKnown es) es → IsNamed f e → IsFresh e.name → All (IsKnown (es ++ e ∷ [])) (es ++ e ∷ [])
   known-push es e all own fresh =
       All-push (IsKnown (es ++ e ∷ [])) es e
-      (All-map (IsKnown es) (IsKnown (es ++ e ∷ [])) es (λ y k. (k.0, k.1, λ x. ap is_some (some-push es e y.name (k.2 x)) ∙ k.2 x)) all)
+      (All-map (IsKnown es) (IsKnown (es ++ e ∷ [])) es (λ y k. still-known es e y k) all)
       (known-self es e own fresh)
 
   abbrev pub text_behind : List ℕ → Option Denotation → List ℕ
@@ -226,60 +230,95 @@ module _ (f : ℕ → List ℕ) (entity : ℕ) (new : List ℕ) where
       let found = lookup-some (rename b.entries) b.path text (if c then new else text) b.entries e a h (ap (λ m. if c then new else m) k.1) in
       (ap (mentioned (renamed b)) found ∙ ap (λ d. Some (record { after = renamed b; denotes = Some d })) (denotation-kept b.entries e all k.0), all)
 
-  clash-apart : (b : Bindings) (n : ℕ) (text text' : List ℕ) (function : Bool) (y : Entry) → IsApart (rename b.entries) text text' y
-      → clashes (entry_at (renamed b) function text' n) (rename b.entries y) ≡ true → clashes (entry_at b function text n) y ≡ true
-  clash-apart b n text text' function y a h =
-      let flags = not (is_file_scope b.path && y.linked && both_or_neither function y.function) in
-      let w = both (is_in b.path text' (rename b.entries y)) flags h in
-      ap (λ z. z && flags) (in-apart (rename b.entries) b.path text text' y a w.0) ∙ w.1
+  clash-apart : (b : Bindings) (e : Entry) (es : List Entry) (y : Entry) → IsApart (rename b.entries) e.name (rename es e).name y
+      → clashes (rename es e) (rename b.entries y) ≡ true → clashes e y ≡ true
+  clash-apart b e es y a h =
+      let flags = is_second e y || are_opposite e y in
+      let w = both (bytes_eq (rename b.entries y).name (rename es e).name) flags h in
+      ap (λ z. z && flags) (a.1 w.0) ∙ w.1
 
-  abbrev FollowsDeclared : Bindings → ℕ → List ℕ → Bool → Option Bound → Type 0
-  FollowsDeclared b n text function None = Unit {0}
-  FollowsDeclared b n text function (Some d) =
-      (declared (renamed b) (entry_at (renamed b) function (text_behind text d.denotes) n) ≡ Some (record { after = renamed d.after; denotes = d.denotes })) × All (IsKnown d.after.entries) d.after.entries
+  -- the declaration with the new name sees the linkage that the declaration saw
+  seen-kept : (b : Bindings) (e : Entry) → All (IsKnown b.entries) b.entries → All (IsKnown (b.entries ++ e ∷ [])) (b.entries ++ e ∷ []) → IsKnown (b.entries ++ e ∷ []) e → e.linked ≡ true
+      → is_seen_internal (first_linked (rename (b.entries ++ e ∷ []) e).name (map (rename b.entries) b.entries)) ≡ is_seen_internal (first_linked e.name b.entries)
+  seen-kept b e all known k x =
+      ap is_seen_internal (find-map (is_linked e.name) (is_linked (rename es e).name) (rename b.entries) b.entries (All-map (IsKnown b.entries) (λ y. is_linked (rename es e).name (rename b.entries y) ≡ is_linked e.name y) b.entries one all))
+      ∙ by (first_linked e.name b.entries)
+    where
+      es : List Entry
+      es = b.entries ++ e ∷ []
 
-  declare-follows : (b : Bindings) (n : ℕ) (text : List ℕ) (function : Bool) → All (IsKnown b.entries) b.entries → IsFresh text → f n ≡ text
-      → (x : Bool) → is_redeclared b.entries (entry_at b function text n) ≡ x
-      → (d : Bound) → (if x then None else Some (record { after = record { entries = b.entries ++ entry_at b function text n ∷ []; path = b.path; next = b.next }; denotes = Some (denotation (b.entries ++ entry_at b function text n ∷ []) (entry_at b function text n)) })) ≡ Some d
-      → (declared (renamed b) (entry_at (renamed b) function (text_behind text d.denotes) n) ≡ Some (record { after = renamed d.after; denotes = d.denotes })) × All (IsKnown d.after.entries) d.after.entries
-  declare-follows b n text function all fresh own true r d h = let bad : ⊥ = cc in absurd bad
-  declare-follows b n text function all fresh own false r d h =
-      let e = entry_at b function text n in
+      one : (y : Entry) → IsKnown b.entries y → is_linked (rename es e).name (rename b.entries y) ≡ is_linked e.name y
+      one y l = ap (is_linked (rename es e).name) (sym (rename-push b.entries e y l)) ∙ linked-kept es e known k x y (still-known b.entries e y l)
+
+      by : (o : Option Entry) → is_seen_internal (option_map (rename b.entries) o) ≡ is_seen_internal o
+      by None = refl
+      by (Some w) = refl
+
+  -- so it is the declaration with the new name
+  declares-renamed : (b : Bindings) (n : ℕ) (text : List ℕ) (function : Bool) (word : Option Storage) → All (IsKnown b.entries) b.entries
+      → (let e = entry_at b function word text n in All (IsKnown (b.entries ++ e ∷ [])) (b.entries ++ e ∷ []) → IsKnown (b.entries ++ e ∷ []) e
+      → entry_at (renamed b) function word (rename (b.entries ++ e ∷ []) e).name n ≡ rename (b.entries ++ e ∷ []) e)
+  declares-renamed b n text function word all known k = ap (λ i. record { path = b.path; name = name'; token = n; function = function; linked = is_file_scope b.path; internal = i }) (by (is_file_scope b.path) refl)
+    where
+      e : Entry
+      e = entry_at b function word text n
+
+      name' : List ℕ
+      name' = (rename (b.entries ++ e ∷ []) e).name
+
+      by : (x : Bool) → is_file_scope b.path ≡ x
+          → (x && is_internal function (is_seen_internal (first_linked name' (map (rename b.entries) b.entries))) word) ≡ (x && is_internal function (is_seen_internal (first_linked text b.entries)) word)
+      by false h = refl
+      by true h = ap (λ s. is_internal function s word) (seen-kept b e all known k h)
+
+  abbrev FollowsDeclared : Bindings → ℕ → List ℕ → Bool → Option Storage → Option Bound → Type 0
+  FollowsDeclared b n text function word None = Unit {0}
+  FollowsDeclared b n text function word (Some d) =
+      (declared (renamed b) (entry_at (renamed b) function word (text_behind text d.denotes) n) ≡ Some (record { after = renamed d.after; denotes = d.denotes })) × All (IsKnown d.after.entries) d.after.entries
+
+  declare-follows : (b : Bindings) (n : ℕ) (text : List ℕ) (function : Bool) (word : Option Storage) → All (IsKnown b.entries) b.entries → IsFresh text → f n ≡ text
+      → (x : Bool) → is_redeclared b.entries (entry_at b function word text n) ≡ x
+      → (d : Bound) → (if x then None else Some (record { after = record { entries = b.entries ++ entry_at b function word text n ∷ []; path = b.path; next = b.next }; denotes = Some (denotation (b.entries ++ entry_at b function word text n ∷ []) (entry_at b function word text n)) })) ≡ Some d
+      → (declared (renamed b) (entry_at (renamed b) function word (text_behind text d.denotes) n) ≡ Some (record { after = renamed d.after; denotes = d.denotes })) × All (IsKnown d.after.entries) d.after.entries
+  declare-follows b n text function word all fresh own true r d h = let bad : ⊥ = cc in absurd bad
+  declare-follows b n text function word all fresh own false r d h =
+      let e = entry_at b function word text n in
       let es = b.entries ++ e ∷ [] in
       let known = known-push b.entries e all own fresh in
       let k : IsKnown es e = known-self b.entries e own fresh in
       let c = entity_of es e == entity in
       let mine : c ≡ true → f entity ≡ text = λ g. named es e known k g in
-      let a = All-map (IsKnown b.entries) (λ y. clashes (entry_at (renamed b) function (if c then new else text) n) (rename b.entries y) ≡ true → clashes e y ≡ true) b.entries
-      (λ y l. clash-apart b n text (if c then new else text) function y (apart b.entries text c all fresh mine y l)) all in
-      let free : is_redeclared (map (rename b.entries) b.entries) (entry_at (renamed b) function (if c then new else text) n) ≡ false =
-      list_any-map-none (clashes e) (clashes (entry_at (renamed b) function (if c then new else text) n)) (rename b.entries) b.entries a r in
-      let grown : map (rename b.entries) b.entries ++ entry_at (renamed b) function (if c then new else text) n ∷ [] ≡ map (rename es) es = sym (renamed-push b.entries e all) in
+      let a = All-map (IsKnown b.entries) (λ y. clashes (rename es e) (rename b.entries y) ≡ true → clashes e y ≡ true) b.entries
+      (λ y l. clash-apart b e es y (apart b.entries text c all fresh mine y l)) all in
+      let free : is_redeclared (map (rename b.entries) b.entries) (rename es e) ≡ false =
+      list_any-map-none (clashes e) (clashes (rename es e)) (rename b.entries) b.entries a r in
+      let grown : map (rename b.entries) b.entries ++ rename es e ∷ [] ≡ map (rename es) es = sym (renamed-push b.entries e all) in
       let same : (record { after = record { entries = es; path = b.path; next = b.next }; denotes = Some (denotation es e) }) ≡ d = cc in
-      subst (λ d. (declared (renamed b) (entry_at (renamed b) function (text_behind text d.denotes) n) ≡ Some (record { after = renamed d.after; denotes = d.denotes })) × All (IsKnown d.after.entries) d.after.entries) same (
-        ap (λ x. if x then None else Some (record { after = record { entries = map (rename b.entries) b.entries ++ entry_at (renamed b) function (if c then new else text) n ∷ []; path = b.path; next = b.next }; denotes = Some (denotation (map (rename b.entries) b.entries ++ entry_at (renamed b) function (if c then new else text) n ∷ []) (entry_at (renamed b) function (if c then new else text) n)) })) free
+      subst (λ d. (declared (renamed b) (entry_at (renamed b) function word (text_behind text d.denotes) n) ≡ Some (record { after = renamed d.after; denotes = d.denotes })) × All (IsKnown d.after.entries) d.after.entries) same (
+        ap (declared (renamed b)) (declares-renamed b n text function word all known k)
+            ∙ ap (λ x. if x then None else Some (record { after = record { entries = map (rename b.entries) b.entries ++ rename es e ∷ []; path = b.path; next = b.next }; denotes = Some (denotation (map (rename b.entries) b.entries ++ rename es e ∷ []) (rename es e)) })) free
             ∙ ap (λ l. Some (record { after = record { entries = l; path = b.path; next = b.next }; denotes = Some (denotation l (rename es e)) })) grown
             ∙ ap (λ x. Some (record { after = record { entries = map (rename es) es; path = b.path; next = b.next }; denotes = Some x })) (denotation-kept es e known k),
         known,
       )
 
-  declared-follows : (b : Bindings) (n : ℕ) (text : List ℕ) (function : Bool) → All (IsKnown b.entries) b.entries → IsFresh text → f n ≡ text → (o : Option Bound) → declared b (entry_at b function text n) ≡ o
-      → FollowsDeclared b n text function o
-  declared-follows b n text function all fresh own None h = tt
-  declared-follows b n text function all fresh own (Some d) h = declare-follows b n text function all fresh own (is_redeclared b.entries (entry_at b function text n)) refl d h
+  declared-follows : (b : Bindings) (n : ℕ) (text : List ℕ) (function : Bool) (word : Option Storage) → All (IsKnown b.entries) b.entries → IsFresh text → f n ≡ text → (o : Option Bound) → declared b (entry_at b function word text n) ≡ o
+      → FollowsDeclared b n text function word o
+  declared-follows b n text function word all fresh own None h = tt
+  declared-follows b n text function word all fresh own (Some d) h = declare-follows b n text function word all fresh own (is_redeclared b.entries (entry_at b function word text n)) refl d h
 
   pub bound-follows : (b : Bindings) (n : ℕ) (text : List ℕ) (p : Part) → All (IsKnown b.entries) b.entries → IsFresh text → f n ≡ text → Follows b n text p (bound b n text p)
   bound-follows b n text part.Plain all fresh own = (refl, all)
   bound-follows b n text part.Opens all fresh own = (refl, all)
   bound-follows b n text part.Closes all fresh own = (refl, all)
-  bound-follows b n text part.DeclaresObject all fresh own = as_object (declared b (entry_at b false text n)) (declared-follows b n text false all fresh own (declared b (entry_at b false text n)) refl)
+  bound-follows b n text (part.DeclaresObject word) all fresh own = as_object (declared b (entry_at b false word text n)) (declared-follows b n text false word all fresh own (declared b (entry_at b false word text n)) refl)
     where
-      as_object : (o : Option Bound) → FollowsDeclared b n text false o → Follows b n text part.DeclaresObject o
+      as_object : (o : Option Bound) → FollowsDeclared b n text false word o → Follows b n text (part.DeclaresObject word) o
       as_object None h = tt
       as_object (Some d) h = h
-  bound-follows b n text part.DeclaresFunction all fresh own = as_function (declared b (entry_at b true text n)) (declared-follows b n text true all fresh own (declared b (entry_at b true text n)) refl)
+  bound-follows b n text (part.DeclaresFunction word) all fresh own = as_function (declared b (entry_at b true word text n)) (declared-follows b n text true word all fresh own (declared b (entry_at b true word text n)) refl)
     where
-      as_function : (o : Option Bound) → FollowsDeclared b n text true o → Follows b n text part.DeclaresFunction o
+      as_function : (o : Option Bound) → FollowsDeclared b n text true word o → Follows b n text (part.DeclaresFunction word) o
       as_function None h = tt
       as_function (Some d) h = h
   bound-follows b n text part.Mentions all fresh own = mention-follows b n text (lookup b.entries text b.path) all fresh refl

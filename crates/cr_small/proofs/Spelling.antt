@@ -84,8 +84,8 @@ abbrev pub IsNameLeaf : Part → Terminal → Type 0
 IsNameLeaf part.Plain t = Unit {0}
 IsNameLeaf part.Opens t = Unit {0}
 IsNameLeaf part.Closes t = Unit {0}
-IsNameLeaf part.DeclaresObject t = t ≡ terminal.Name
-IsNameLeaf part.DeclaresFunction t = t ≡ terminal.Name
+IsNameLeaf (part.DeclaresObject word) t = t ≡ terminal.Name
+IsNameLeaf (part.DeclaresFunction word) t = t ≡ terminal.Name
 IsNameLeaf part.Mentions t = t ≡ terminal.Name
 
 abbrev pub AreNameLeaves : List Leaf → Type 0
@@ -147,12 +147,12 @@ bound-name : (b : Bindings) (n : ℕ) (t : Token) (p : Part) (e : Bound) → IsN
 bound-name b n t part.Plain e l h = let same : None ≡ e.denotes = cc in subst (NameIf t) same tt
 bound-name b n t part.Opens e l h = let same : None ≡ e.denotes = cc in subst (NameIf t) same tt
 bound-name b n t part.Closes e l h = let same : None ≡ e.denotes = cc in subst (NameIf t) same tt
-bound-name b n t part.DeclaresObject e l h = any e.denotes l
+bound-name b n t (part.DeclaresObject word) e l h = any e.denotes l
   where
     any : (d : Option Denotation) → terminal_of t.text ≡ terminal.Name → NameIf t d
     any None l = tt
     any (Some d) l = l
-bound-name b n t part.DeclaresFunction e l h = any e.denotes l
+bound-name b n t (part.DeclaresFunction word) e l h = any e.denotes l
   where
     any : (d : Option Denotation) → terminal_of t.text ≡ terminal.Name → NameIf t d
     any None l = tt

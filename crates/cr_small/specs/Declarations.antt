@@ -1,17 +1,20 @@
 -- The declarations of a translation unit as one flat list, and what a name means (C11 6.2.1, 6.2.2, 6.7).
-use Rattle.std.specs.Prelude.{ℕ, Bool, true, false, not, ◌&&◌, List, [], ◌∷◌, Option, Some, None, if◌then◌else◌, bytes_eq}
+use Rattle.std.specs.Prelude.{ℕ, Bool, true, false, not, ◌&&◌, ◌||◌, List, [], ◌∷◌, Option, Some, None, if◌then◌else◌, bytes_eq}
 use Rattle.std.specs.List.{list_any, find}
 use Rattle.std.specs.Option.{option_or}
+use Rattle.cr_small.specs.declared.grammar.Storage.{Storage}
+use Rattle.cr_small.specs.declared.grammar.Storage.TheVariants as storage
 
 -- A declaration: the scope in which it stands, as the numbers of the scopes entered with the innermost first
--- (none at file scope); its name; the number of its token; whether it is a function, and else an object; and
--- whether it has external linkage, and else none.
+-- (none at file scope); its name; the number of its token; whether it is a function, and else an object; whether it
+-- has linkage; and whether that is internal, and else external.
 pub record Entry : Type 0 where
   pub path : List ℕ
   pub name : List ℕ
   pub token : ℕ
   pub function : Bool
   pub linked : Bool
+  pub internal : Bool
 
 -- the entry is of this scope and name
 abbrev pub is_in : List ℕ → List ℕ → Entry → Bool
@@ -30,7 +33,7 @@ lookup entries name (scope ∷ around) = option_or (last_in (scope ∷ around) n
 abbrev pub is_linked : List ℕ → Entry → Bool
 is_linked name entry = entry.linked && bytes_eq entry.name name
 
--- the first declaration of a name with external linkage
+-- the first declaration of a name with linkage
 abbrev pub first_linked : List ℕ → List Entry → Option Entry
 first_linked name entries = find (is_linked name) entries
 
@@ -38,8 +41,8 @@ abbrev pub token_or : ℕ → Option Entry → ℕ
 token_or own None = own
 token_or own (Some entry) = entry.token
 
--- The first declaring token of the entity that an entry declares: all declarations of a name with external
--- linkage are one entity, and any other is one by itself (C11 6.2.2p2).
+-- The first declaring token of the entity that an entry declares: all declarations of a name with linkage are one
+-- entity, and any other is one by itself (C11 6.2.2p2).
 abbrev pub entity_of : List Entry → Entry → ℕ
 entity_of entries entry = if entry.linked then token_or entry.token (first_linked entry.name entries) else entry.token
 
@@ -47,9 +50,33 @@ abbrev pub both_or_neither : Bool → Bool → Bool
 both_or_neither true b = b
 both_or_neither false b = not b
 
--- Two declarations of a name in one scope clash, unless both have linkage and are of one kind (C11 6.7p3).
+-- With `static` a declaration at file scope has internal linkage (C11 6.2.2p3). With `extern` (p4), and as a function
+-- without a storage word (p5), it has the linkage of the declarations of the name that are seen, and else external
+-- linkage. An object without a storage word has external linkage (p5).
+abbrev pub is_internal : Bool → Bool → Option Storage → Bool
+is_internal function seen None = function && seen
+is_internal function seen (Some storage.Static) = true
+is_internal function seen (Some storage.Extern) = seen
+
+-- the seen declaration of a name has internal linkage
+abbrev pub is_seen_internal : Option Entry → Bool
+is_seen_internal None = false
+is_seen_internal (Some entry) = entry.internal
+
+abbrev pub are_linked : Entry → Entry → Bool
+are_linked new old = new.linked && old.linked
+
+-- two declarations in one scope, unless both have linkage and are of one kind (C11 6.7p3)
+abbrev pub is_second : Entry → Entry → Bool
+is_second new old = bytes_eq old.path new.path && not (are_linked new old && both_or_neither new.function old.function)
+
+-- one has internal and the other external linkage (C11 6.2.2p7)
+abbrev pub are_opposite : Entry → Entry → Bool
+are_opposite new old = are_linked new old && not (both_or_neither new.internal old.internal)
+
+-- Two declarations of a name clash.
 abbrev pub clashes : Entry → Entry → Bool
-clashes new old = is_in new.path new.name old && not (new.linked && old.linked && both_or_neither new.function old.function)
+clashes new old = bytes_eq old.name new.name && (is_second new old || are_opposite new old)
 
 abbrev pub is_redeclared : List Entry → Entry → Bool
 is_redeclared entries new = list_any (clashes new) entries

@@ -1,5 +1,5 @@
 -- What tells the entities of a text apart, and those of several texts.
-use Rattle.std.specs.Prelude.{ℕ, Bool, true, false, List, Option, Some, None, ◌==◌, bytes_eq, slice_get}
+use Rattle.std.specs.Prelude.{ℕ, Bool, true, false, not, ◌&&◌, List, Option, Some, None, ◌==◌, bytes_eq, slice_get}
 use Rattle.std.specs.Option.{option_map}
 use Rattle.cr_small.specs.Tokens.{Token}
 use Rattle.cr_small.specs.declared.binder.Denotation.{Denotation}
@@ -10,13 +10,17 @@ pub data Key : Type 0 where
   external : List ℕ → Key
   at : ℕ → Key
 
+-- what a token denotes has external linkage
+abbrev pub has_external_linkage : Denotation → Bool
+has_external_linkage d = d.linked && not d.internal
+
 abbrev pub key_of_token : Bool → Token → Key
 key_of_token true t = external t.text
 key_of_token false t = at t.offset
 
 -- the key of what a token denotes
 abbrev pub key_of : List Token → Denotation → Option Key
-key_of tokens d = option_map (key_of_token d.linked) (slice_get tokens d.token)
+key_of tokens d = option_map (key_of_token (has_external_linkage d)) (slice_get tokens d.token)
 
 -- the two keys are one
 abbrev pub is_key : Key → Key → Bool

@@ -30,9 +30,9 @@ start level.Block terminal.End calls = Some (record { part = part.Closes; next =
 start level.Block t calls = item level.Block t calls
 
 abbrev pub declarator : Level → Bool → Move
-declarator level.File true = record { part = part.DeclaresFunction; next = state.ParametersOpen }
-declarator level.File false = record { part = part.DeclaresObject; next = state.Initialiser level.File }
-declarator level.Block calls = record { part = part.DeclaresObject; next = state.Initialiser level.Block }
+declarator level.File true = record { part = part.DeclaresFunction None; next = state.ParametersOpen }
+declarator level.File false = record { part = part.DeclaresObject None; next = state.Initialiser level.File }
+declarator level.Block calls = record { part = part.DeclaresObject None; next = state.Initialiser level.Block }
 
 -- one token of a derivation; `calls` says that an open parenthesis is next
 abbrev pub step : State → Terminal → Bool → Option Move

@@ -66,7 +66,7 @@ initialiser_leaves (Some sum) = plain terminal.Assign ∷ sum_leaves sum
 
 abbrev pub object_leaves : Option Sum → List Leaf
 object_leaves init =
-    plain terminal.Int ∷ name_that part.DeclaresObject ∷ initialiser_leaves init ++ plain terminal.Semicolon ∷ []
+    plain terminal.Int ∷ name_that (part.DeclaresObject None) ∷ initialiser_leaves init ++ plain terminal.Semicolon ∷ []
 
 abbrev pub statement_leaves : Statement → List Leaf
 statement_leaves (local init) = object_leaves init
@@ -76,7 +76,7 @@ statement_leaves (evaluates sum) = sum_leaves sum ++ plain terminal.Semicolon �
 -- 'int' id '(' 'void' ')'
 abbrev pub function_leaves : List Leaf
 function_leaves =
-    plain terminal.Int ∷ name_that part.DeclaresFunction ∷ plain terminal.Open ∷ plain terminal.Void ∷ plain terminal.Close ∷ []
+    plain terminal.Int ∷ name_that (part.DeclaresFunction None) ∷ plain terminal.Open ∷ plain terminal.Void ∷ plain terminal.Close ∷ []
 
 -- the braces of a body, which open and close its scope
 abbrev pub opening : Leaf

@@ -11,14 +11,21 @@ use crate::token::Token;
 use cr_base::OutOfMemory;
 use std::alloc::Global;
 
-/// What a token does in a derivation.
+/// The storage word of a declaration.
+#[derive(Clone, Copy)]
+pub enum Storage {
+    Static,
+    Extern,
+}
+
+/// What a token does in a derivation. A declaration does it with its storage word, if it has one.
 #[derive(Clone, Copy)]
 pub enum Part {
     Plain,
     Opens,
     Closes,
-    DeclaresObject,
-    DeclaresFunction,
+    DeclaresObject(Option<Storage>),
+    DeclaresFunction(Option<Storage>),
     Mentions,
 }
 
@@ -81,11 +88,11 @@ fn declarator(level: Level, calls: bool) -> Move
 {
     match (level, calls) {
         (Level::File, true) => Move {
-            part: Part::DeclaresFunction,
+            part: Part::DeclaresFunction(None),
             next: State::ParametersOpen,
         },
         _ => Move {
-            part: Part::DeclaresObject,
+            part: Part::DeclaresObject(None),
             next: State::Initialiser(level),
         },
     }

@@ -16,4 +16,3 @@ pub use laws::{
 };
 pub use renaming::{EntityKey, Target, has_text, places_of, target_at};
 pub use token::{Token, cut};
-

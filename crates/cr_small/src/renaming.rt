@@ -44,7 +44,7 @@ fn key_of<'a>(tokens: &[Token<'a>], denoted: Denotation) -> Option<EntityKey<'a>
     ensures { option_map key_of_code result ≡ key_of (map token_of tokens.now) denoted }
 {
     let first = tokens.get(denoted.token)?;
-    Some(if denoted.linked {
+    Some(if denoted.linked && !denoted.internal {
         EntityKey::External(first.text)
     } else {
         EntityKey::At(first.offset)
