@@ -6,11 +6,13 @@ use Rattle.std.specs.Option.{option_map, option_and_then}
 use Rattle.cr_base.specs.Names.{is_word_byte, is_digit, starts_name, is_identifier, is_keyword, keywords}
 use Rattle.cr_small.specs.Tokens.{Token}
 use Rattle.cr_small.specs.Terminals.{is_name, is_number, punctuator, terminal_of}
-use Rattle.cr_small.specs.Tree.{Item, number, mention, call, Sum, Statement, local, returns, evaluates, External, object, prototype, definition, Leaf, item_leaves, more_leaves, sum_leaves, initialiser_leaves, object_leaves, statement_leaves, closing, external_leaves, leaves, plain}
+use Rattle.cr_small.specs.Tree.{Item, number, mention, call, Sum, Statement, local, returns, evaluates, External, Declaration, object, prototype, definition, Leaf, item_leaves, more_leaves, sum_leaves, initialiser_leaves, object_leaves, statement_leaves, closing, declaration_leaves, word_leaves, external_leaves, leaves, plain}
 use Rattle.cr_small.specs.Resolution.{Bindings, Bound, bound, resolved, file_scope}
 use Rattle.cr_small.specs.SmallForm.{IsWellFormed}
 use Rattle.cr_small.specs.declared.terminal.Terminal.{Terminal}
 use Rattle.cr_small.specs.declared.terminal.Terminal.TheVariants as terminal
+use Rattle.cr_small.specs.declared.grammar.Storage.{Storage}
+use Rattle.cr_small.specs.declared.grammar.Storage.TheVariants as storage
 use Rattle.cr_small.specs.declared.grammar.Part.{Part}
 use Rattle.cr_small.specs.declared.grammar.Part.TheVariants as part
 use Rattle.cr_small.specs.declared.binder.Denotation.{Denotation}
@@ -35,15 +37,17 @@ punctuator-other (x ∷ y ∷ w) h = cc
 -- a token that is a name in the grammar is one
 pub name-of-terminal : (w : List ℕ) → terminal_of w ≡ terminal.Name → is_name w ≡ true
 unfolding terminal_of
-name-of-terminal w h = by (bytes_eq w (codes "int")) (bytes_eq w (codes "void")) (bytes_eq w (codes "return")) (is_name w) (is_number w) h
+name-of-terminal w h = by (bytes_eq w (codes "int")) (bytes_eq w (codes "void")) (bytes_eq w (codes "return")) (bytes_eq w (codes "static")) (bytes_eq w (codes "extern")) (is_name w) (is_number w) h
   where
-    by : (a b c d e : Bool) → (if a then terminal.Int else if b then terminal.Void else if c then terminal.Return else if d then terminal.Name else if e then terminal.Number else punctuator w) ≡ terminal.Name → d ≡ true
-    by true b c d e h = let no : ⊥ = cc in absurd no
-    by false true c d e h = let no : ⊥ = cc in absurd no
-    by false false true d e h = let no : ⊥ = cc in absurd no
-    by false false false true e h = refl
-    by false false false false true h = let no : ⊥ = cc in absurd no
-    by false false false false false h = absurd (punctuator-other w h)
+    by : (a b c s t d e : Bool) → (if a then terminal.Int else if b then terminal.Void else if c then terminal.Return else if s then terminal.Static else if t then terminal.Extern else if d then terminal.Name else if e then terminal.Number else punctuator w) ≡ terminal.Name → d ≡ true
+    by true b c s t d e h = let no : ⊥ = cc in absurd no
+    by false true c s t d e h = let no : ⊥ = cc in absurd no
+    by false false true s t d e h = let no : ⊥ = cc in absurd no
+    by false false false true t d e h = let no : ⊥ = cc in absurd no
+    by false false false false true d e h = let no : ⊥ = cc in absurd no
+    by false false false false false true e h = refl
+    by false false false false false false true h = let no : ⊥ = cc in absurd no
+    by false false false false false false false h = absurd (punctuator-other w h)
 
 int-is-none : is_name (codes "int") ≡ false
 unfolding is_name is_keyword keywords
@@ -57,6 +61,14 @@ return-is-none : is_name (codes "return") ≡ false
 unfolding is_name is_keyword keywords
 return-is-none = refl
 
+static-is-none : is_name (codes "static") ≡ false
+unfolding is_name is_keyword keywords
+static-is-none = refl
+
+extern-is-none : is_name (codes "extern") ≡ false
+unfolding is_name is_keyword keywords
+extern-is-none = refl
+
 other-word : (w k : List ℕ) → is_name w ≡ true → is_name k ≡ false → bytes_eq w k ≡ false
 other-word w k h g =
     elim (bool_cases (bytes_eq w k)) [
@@ -67,7 +79,7 @@ other-word w k h g =
 -- and a name is one in the grammar
 pub terminal-of-name : (w : List ℕ) → is_name w ≡ true → terminal_of w ≡ terminal.Name
 unfolding terminal_of
-terminal-of-name w h = rw (other-word w (codes "int") h int-is-none, other-word w (codes "void") h void-is-none, other-word w (codes "return") h return-is-none, h) refl
+terminal-of-name w h = rw (other-word w (codes "int") h int-is-none, other-word w (codes "void") h void-is-none, other-word w (codes "return") h return-is-none, other-word w (codes "static") h static-is-none, other-word w (codes "extern") h extern-is-none, h) refl
 
 pub word-of-name : (w : List ℕ) → is_name w ≡ true → IsWord w
 unfolding is_name
@@ -112,11 +124,11 @@ initialiser-names : (init : Option Sum) → AreNameLeaves (initialiser_leaves in
 initialiser-names None = tt
 initialiser-names (Some sum) = (tt, sum-names sum)
 
-object-names : (init : Option Sum) → AreNameLeaves (object_leaves init)
-object-names init = (tt, (refl, leaves-append (initialiser_leaves init) (plain terminal.Semicolon ∷ []) (initialiser-names init) (tt, tt)))
+object-names : (word : Option Storage) (init : Option Sum) → AreNameLeaves (object_leaves word init)
+object-names word init = (tt, (refl, leaves-append (initialiser_leaves init) (plain terminal.Semicolon ∷ []) (initialiser-names init) (tt, tt)))
 
 statement-names : (s : Statement) → AreNameLeaves (statement_leaves s)
-statement-names (local init) = object-names init
+statement-names (local init) = object-names None init
 statement-names (returns sum) = (tt, leaves-append (sum_leaves sum) (plain terminal.Semicolon ∷ []) (sum-names sum) (tt, tt))
 statement-names (evaluates sum) = leaves-append (sum_leaves sum) (plain terminal.Semicolon ∷ []) (sum-names sum) (tt, tt)
 
@@ -124,10 +136,18 @@ statements-names : (ss : List Statement) → AreNameLeaves (flat_map statement_l
 statements-names [] = tt
 statements-names (s ∷ ss) = leaves-append (statement_leaves s) (flat_map statement_leaves ss) (statement-names s) (statements-names ss)
 
+declaration-names : (word : Option Storage) (d : Declaration) → AreNameLeaves (declaration_leaves word d)
+declaration-names word (object init) = object-names word init
+declaration-names word prototype = (tt, (refl, (tt, (tt, (tt, (tt, tt))))))
+declaration-names word (definition ss) = (tt, (refl, (tt, (tt, (tt, (tt, leaves-append (flat_map statement_leaves ss) (closing ∷ []) (statements-names ss) (tt, tt)))))))
+
+word-names : (word : Option Storage) → AreNameLeaves (word_leaves word)
+word-names None = tt
+word-names (Some storage.Static) = (tt, tt)
+word-names (Some storage.Extern) = (tt, tt)
+
 external-names : (e : External) → AreNameLeaves (external_leaves e)
-external-names (object init) = object-names init
-external-names prototype = (tt, (refl, (tt, (tt, (tt, (tt, tt))))))
-external-names (definition ss) = (tt, (refl, (tt, (tt, (tt, (tt, leaves-append (flat_map statement_leaves ss) (closing ∷ []) (statements-names ss) (tt, tt)))))))
+external-names e = leaves-append (word_leaves e.word) (declaration_leaves e.word e.declaration) (word-names e.word) (declaration-names e.word e.declaration)
 
 tree-names : (tree : List External) → AreNameLeaves (leaves tree)
 tree-names [] = tt

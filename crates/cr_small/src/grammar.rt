@@ -40,7 +40,8 @@ pub enum Level {
 #[derive(Clone, Copy)]
 pub enum State {
     Start(Level),
-    Declarator(Level),
+    Stored(Storage),
+    Declarator(Level, Option<Storage>),
     Initialiser(Level),
     Item(Level),
     CallOpen(Level),
@@ -72,7 +73,9 @@ fn start(level: Level, terminal: Terminal, calls: bool) -> Option<Move>
     ensures { result ≡ machine.start level terminal calls }
 {
     match (level, terminal) {
-        (_, Terminal::Int) => plain(State::Declarator(level)),
+        (Level::File, Terminal::Static) => plain(State::Stored(Storage::Static)),
+        (Level::File, Terminal::Extern) => plain(State::Stored(Storage::Extern)),
+        (_, Terminal::Int) => plain(State::Declarator(level, None)),
         (Level::Block, Terminal::Return) => plain(State::Item(level)),
         (Level::Block, Terminal::End) => Some(Move {
             part: Part::Closes,
@@ -83,16 +86,16 @@ fn start(level: Level, terminal: Terminal, calls: bool) -> Option<Move>
     }
 }
 
-fn declarator(level: Level, calls: bool) -> Move
-    ensures { result ≡ machine.declarator level calls }
+fn declarator(level: Level, word: Option<Storage>, calls: bool) -> Move
+    ensures { result ≡ machine.declarator level word calls }
 {
     match (level, calls) {
         (Level::File, true) => Move {
-            part: Part::DeclaresFunction(None),
+            part: Part::DeclaresFunction(word),
             next: State::ParametersOpen,
         },
         _ => Move {
-            part: Part::DeclaresObject(None),
+            part: Part::DeclaresObject(word),
             next: State::Initialiser(level),
         },
     }
@@ -121,7 +124,8 @@ fn step(state: State, terminal: Terminal, calls: bool) -> Option<Move>
 {
     match (state, terminal) {
         (State::Start(level), _) => start(level, terminal, calls),
-        (State::Declarator(level), Terminal::Name) => Some(declarator(level, calls)),
+        (State::Stored(word), Terminal::Int) => plain(State::Declarator(Level::File, Some(word))),
+        (State::Declarator(level, word), Terminal::Name) => Some(declarator(level, word, calls)),
         (State::Initialiser(level), Terminal::Assign) => plain(State::Item(level)),
         (State::Initialiser(level), Terminal::Semicolon) => plain(State::Start(level)),
         (State::Item(level), _) => item(level, terminal, calls),
