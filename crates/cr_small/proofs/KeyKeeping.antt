@@ -9,7 +9,7 @@ use Rattle.cr_small.specs.Tokens.{Token, cut}
 use Rattle.cr_small.specs.Terminals.{is_name}
 use Rattle.cr_small.specs.Tree.{parts}
 use Rattle.cr_small.specs.Resolution.{file_scope}
-use Rattle.cr_small.specs.Keys.{Key, external, at, has_external_linkage, key_of_token, key_of, is_key}
+use Rattle.cr_small.specs.Keys.{Key, external, has_external_linkage, key_of_token, key_of, is_key}
 use Rattle.cr_small.specs.Renaming.{has_key, denotes_key, places_of, has_text}
 use Rattle.cr_small.specs.SmallForm.{IsSmallForm, IsWellFormed}
 use Rattle.cr_small.specs.KeepsMeaning.{is_place, renamed_token, KeepsMeaning}
@@ -21,7 +21,7 @@ use Rattle.cr_small.proofs.Keeping.{distinct, text_of-get, fresh-each, all-fresh
 use Rattle.cr_small.proofs.KeyLaws.{keyed, keyed_so, Keyed, keyed-at, named, order, texts, spelled-get}
 use Rattle.cr_small.proofs.Links.{pairs-alike, alike-at}
 use Rattle.cr_small.proofs.Moved.{PlacedAs, placed-text}
-use Rattle.cr_small.proofs.Names.{AllSpelled, text_of, texts-from, well-spelled}
+use Rattle.cr_small.proofs.Names.{text_of, texts-from, well-spelled}
 use Rattle.cr_small.proofs.Pairs.{resolves-length}
 use Rattle.cr_small.proofs.Spacing.{IsWord}
 use Rattle.cr_small.proofs.Spelling.{word-of-name}

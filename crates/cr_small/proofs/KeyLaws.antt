@@ -1,17 +1,15 @@
 -- Entities by their keys.
-use Rattle.std.proofs.Common.{◌≡◌, inl, inr, ◌⊎◌, ℕ, ◌+◌, ◌<◌, ◌≤◌, Bool, true, false, List, [], ◌∷◌, length, map, Option, Some, None, refl, sym, ap, ◌∙◌, subst, zero, suc, slice_get, arith, eq-eqb, eqb-true}
-use Rattle.std.specs.Prelude.{if◌then◌else◌, bytes_eq, ◌==◌}
-use Rattle.std.specs.Option.{option_map, option_and_then}
+use Rattle.std.proofs.Common.{◌≡◌, inl, inr, ℕ, ◌+◌, ◌<◌, Bool, true, false, List, [], ◌∷◌, length, map, Option, Some, None, refl, sym, ap, ◌∙◌, subst, zero, suc, slice_get, arith, eq-eqb, eqb-true}
+use Rattle.std.specs.Prelude.{if◌then◌else◌}
+use Rattle.std.specs.Option.{option_map}
 use Rattle.std.specs.List.{zip, filter}
 use Rattle.std.proofs.lemmas.Slice.Eq.{bytes_eq-Decides}
 use Rattle.cr_base.specs.Substitution.{Rise}
 use Rattle.cr_small.specs.Tokens.{Token, cut}
 use Rattle.cr_small.specs.Terminals.{is_name, has_plain_names, terminal_of}
-use Rattle.cr_small.specs.Tree.{parts}
-use Rattle.cr_small.specs.Machine.{step}
 use Rattle.cr_small.specs.Resolution.{file_scope, resolved}
 use Rattle.cr_small.specs.Keys.{Key, external, at, has_external_linkage, key_of_token, key_of, is_key}
-use Rattle.cr_small.specs.Renaming.{Target, target_of, target_among, target_at, covers, has_key, denotes_key, places_among, places_of}
+use Rattle.cr_small.specs.Renaming.{Target, target_of, target_among, target_at, covers, has_key, denotes_key, places_among}
 use Rattle.cr_small.specs.SmallForm.{IsSmallForm, Resolves}
 use Rattle.cr_small.specs.Laws.{IsNameOf, PlacesRise, HasPlace, NamesItsKey, Decided}
 use Rattle.cr_small.specs.declared.grammar.Level.TheVariants as level
@@ -19,7 +17,7 @@ use Rattle.cr_small.specs.declared.grammar.State.TheVariants as state
 use Rattle.cr_small.specs.declared.grammar.Part.{Part}
 use Rattle.cr_small.specs.declared.binder.Denotation.{Denotation}
 use Rattle.cr_small.proofs.Braces.{resolves}
-use Rattle.cr_small.proofs.Cuts.{InOrder, cut-in_order, rise_down}
+use Rattle.cr_small.proofs.Cuts.{InOrder, rise_down}
 use Rattle.cr_small.proofs.Edited.{layout-order}
 use Rattle.cr_small.proofs.Keeping.{distinct, text_of-get}
 use Rattle.cr_small.proofs.Moved.{Each, HasText, layout-texts}

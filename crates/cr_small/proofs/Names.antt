@@ -1,11 +1,11 @@
 -- Tokens that denote one entity are spelled alike, and stand one behind another.
 use Rattle.std.proofs.lemmas.List.{length-map}
-use Rattle.std.proofs.Common.{eqb-true, eq-eqb, ◌≡◌, ℕ, ◌+◌, ◌<◌, ◌≤◌, Bool, true, false, List, [], ◌∷◌, ◌++◌, length, map, Option, Some, None, refl, sym, ap, ◌∙◌, subst, arith, cond, zero, suc}
+use Rattle.std.proofs.Common.{eqb-true, eq-eqb, ◌≡◌, ℕ, ◌+◌, ◌≤◌, Bool, true, false, List, [], ◌∷◌, ◌++◌, length, map, Option, Some, None, refl, sym, ap, ◌∙◌, subst, arith, cond, zero, suc}
 use Rattle.std.specs.Prelude.{if◌then◌else◌, bytes_eq, ◌==◌}
 use Rattle.std.specs.List.{find, zip, filter}
 use Rattle.std.specs.Option.{option_map, option_or, option_and_then}
 use Rattle.cr_base.specs.Substitution.{Rise}
-use Rattle.cr_small.specs.Tokens.{Token, cut}
+use Rattle.cr_small.specs.Tokens.{Token}
 use Rattle.cr_small.specs.Terminals.{terminal_of}
 use Rattle.cr_small.specs.Tree.{External, leaves, parts, Derives}
 use Rattle.cr_small.specs.Declarations.{Entry, is_in, last_in, lookup, is_linked, first_linked, token_or, entity_of, is_redeclared}
@@ -16,7 +16,7 @@ use Rattle.cr_small.specs.declared.grammar.Part.{Part}
 use Rattle.cr_small.specs.declared.grammar.Part.TheVariants as part
 use Rattle.cr_small.specs.declared.binder.Denotation.{Denotation}
 use Rattle.cr_small.proofs.Flat.{both, bytes_eq-true, find-Some}
-use Rattle.cr_small.proofs.Cuts.{InOrder, cut-in_order, rise_down}
+use Rattle.cr_small.proofs.Cuts.{InOrder, rise_down}
 
 -- a fact of each entry
 abbrev pub All : (Entry → Type 0) → List Entry → Type 0

@@ -1,5 +1,5 @@
 -- The walk over a text with a new name meets what the walk over the text met.
-use Rattle.std.proofs.Common.{◌≡◌, ℕ, ◌+◌, Bool, true, false, not, ◌&&◌, ◌||◌, List, [], ◌∷◌, ◌++◌, map, Option, Some, None, refl, sym, ap, ◌∙◌, subst, cond, eqb-true}
+use Rattle.std.proofs.Common.{◌≡◌, ℕ, ◌+◌, Bool, true, false, ◌&&◌, ◌||◌, List, [], ◌∷◌, ◌++◌, map, Option, Some, None, refl, sym, ap, ◌∙◌, subst, cond, eqb-true}
 use Rattle.std.specs.Prelude.{if◌then◌else◌, bytes_eq, ◌==◌}
 use Rattle.std.specs.List.{list_any, find}
 use Rattle.std.specs.Option.{option_map, option_or, option_and_then, is_some}
@@ -271,6 +271,10 @@ module _ (f : ℕ → List ℕ) (entity : ℕ) (new : List ℕ) where
       by false h = refl
       by true h = ap (λ s. is_internal function s word) (seen-kept b e all known k h)
 
+  declared-free : (b : Bindings) (e : Entry) → is_redeclared b.entries e ≡ false
+      → declared b e ≡ Some (record { after = record { entries = b.entries ++ e ∷ []; path = b.path; next = b.next }; denotes = Some (denotation (b.entries ++ e ∷ []) e) })
+  declared-free b e free = ap (λ x. if x then None else Some (record { after = record { entries = b.entries ++ e ∷ []; path = b.path; next = b.next }; denotes = Some (denotation (b.entries ++ e ∷ []) e) })) free
+
   abbrev FollowsDeclared : Bindings → ℕ → List ℕ → Bool → Option Storage → Option Bound → Type 0
   FollowsDeclared b n text function word None = Unit {0}
   FollowsDeclared b n text function word (Some d) =
@@ -296,7 +300,7 @@ module _ (f : ℕ → List ℕ) (entity : ℕ) (new : List ℕ) where
       let same : (record { after = record { entries = es; path = b.path; next = b.next }; denotes = Some (denotation es e) }) ≡ d = cc in
       subst (λ d. (declared (renamed b) (entry_at (renamed b) function word (text_behind text d.denotes) n) ≡ Some (record { after = renamed d.after; denotes = d.denotes })) × All (IsKnown d.after.entries) d.after.entries) same (
         ap (declared (renamed b)) (declares-renamed b n text function word all known k)
-            ∙ ap (λ x. if x then None else Some (record { after = record { entries = map (rename b.entries) b.entries ++ rename es e ∷ []; path = b.path; next = b.next }; denotes = Some (denotation (map (rename b.entries) b.entries ++ rename es e ∷ []) (rename es e)) })) free
+            ∙ declared-free (renamed b) (rename es e) free
             ∙ ap (λ l. Some (record { after = record { entries = l; path = b.path; next = b.next }; denotes = Some (denotation l (rename es e)) })) grown
             ∙ ap (λ x. Some (record { after = record { entries = map (rename es) es; path = b.path; next = b.next }; denotes = Some x })) (denotation-kept es e known k),
         known,

@@ -1,15 +1,12 @@
 -- What it means that a rename keeps the meaning of a text: the edited text has the same tokens but for the name,
 -- the same tree, and each token denotes what it denoted.
-use Rattle.std.specs.Prelude.{ℕ, ◌≡◌, ◌↔◌, Bool, true, false, List, length, map, slice_get, Option, Some, if◌then◌else◌, ◌==◌}
-use Rattle.std.specs.List.{list_any, zip}
-use Rattle.std.specs.Option.{option_map}
-use Rattle.cr_base.specs.Substitution.{shifted, substituted}
-use Rattle.cr_small.specs.Tokens.{Token, cut}
-use Rattle.cr_small.specs.Terminals.{is_name}
+use Rattle.std.specs.Prelude.{ℕ, ◌≡◌, ◌↔◌, Bool, true, List, length, map, slice_get, Option, Some, if◌then◌else◌, ◌==◌}
+use Rattle.std.specs.List.{list_any}
+use Rattle.cr_base.specs.Substitution.{shifted}
+use Rattle.cr_small.specs.Tokens.{Token}
 use Rattle.cr_small.specs.Tree.{External}
-use Rattle.cr_small.specs.SmallForm.{IsSmallForm, IsWellFormed}
+use Rattle.cr_small.specs.SmallForm.{IsWellFormed}
 use Rattle.cr_small.specs.Keys.{Key, key_of}
-use Rattle.cr_small.specs.Renaming.{Target, target_at, places_of, has_text}
 use Rattle.cr_small.specs.declared.binder.Denotation.{Denotation}
 
 -- the offset is one of the places

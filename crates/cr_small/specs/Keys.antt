@@ -1,5 +1,5 @@
 -- What tells the entities of a text apart, and those of several texts.
-use Rattle.std.specs.Prelude.{ℕ, Bool, true, false, not, ◌&&◌, List, Option, Some, None, ◌==◌, bytes_eq, slice_get}
+use Rattle.std.specs.Prelude.{ℕ, Bool, true, false, not, ◌&&◌, List, Option, ◌==◌, bytes_eq, slice_get}
 use Rattle.std.specs.Option.{option_map}
 use Rattle.cr_small.specs.Tokens.{Token}
 use Rattle.cr_small.specs.declared.binder.Denotation.{Denotation}

@@ -1,5 +1,5 @@
 -- The laws of a rename in texts of the small form.
-use Rattle.std.specs.Prelude.{ℕ, ◌≡◌, ◌⊎◌, ◌<◌, Bool, true, false, List, length, slice_get, Option, Some, if◌then◌else◌}
+use Rattle.std.specs.Prelude.{ℕ, ◌≡◌, ◌⊎◌, ◌<◌, true, false, List, length, slice_get, Option, Some, if◌then◌else◌}
 use Rattle.std.specs.Option.{option_map}
 use Rattle.cr_base.specs.Substitution.{Rise, shifted, substituted}
 use Rattle.cr_small.specs.Tokens.{Token, cut}

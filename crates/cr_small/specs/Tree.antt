@@ -81,7 +81,7 @@ statement_leaves (local init) = object_leaves None init
 statement_leaves (returns sum) = plain terminal.Return ∷ sum_leaves sum ++ plain terminal.Semicolon ∷ []
 statement_leaves (evaluates sum) = sum_leaves sum ++ plain terminal.Semicolon ∷ []
 
--- 'int' id '(' 'void' ')', declared likewise
+-- 'int' id '(' 'void' ')', whose name is declared so too
 abbrev pub function_leaves : Option Storage → List Leaf
 function_leaves word =
     plain terminal.Int ∷ name_that (part.DeclaresFunction word) ∷ plain terminal.Open ∷ plain terminal.Void ∷ plain terminal.Close ∷ []
@@ -98,6 +98,7 @@ declaration_leaves word (object init) = object_leaves word init
 declaration_leaves word prototype = function_leaves word ++ plain terminal.Semicolon ∷ []
 declaration_leaves word (definition statements) = function_leaves word ++ opening ∷ flat_map statement_leaves statements ++ closing ∷ []
 
+-- `static` or `extern`
 abbrev pub word_leaves : Option Storage → List Leaf
 word_leaves None = []
 word_leaves (Some storage.Static) = plain terminal.Static ∷ []

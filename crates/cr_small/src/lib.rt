@@ -7,6 +7,8 @@ mod laws;
 mod renaming;
 mod scopes;
 mod terminal;
+#[cfg(test)]
+mod tests;
 mod token;
 
 pub use binder::{Denotation, resolve};
