@@ -16,7 +16,7 @@ abbrev pub flag : Option Denotation → Bool
 flag None = false
 flag (Some d) = has_external_linkage d
 
--- the linkage of what the token with a number denotes
+-- whether what the token with a number denotes has external linkage
 abbrev pub flag_at : List (Option Denotation) → ℕ → Bool
 flag_at [] k = false
 flag_at (d ∷ ds) zero = flag d

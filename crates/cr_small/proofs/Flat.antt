@@ -179,7 +179,7 @@ last_in-any path name (x ∷ xs) = by (last_in path name xs) refl (last_in-any p
     by None l rest = at (is_in path name x) (rest.0 l)
     by (Some y) l rest = (λ g. (let no : ⊥ = cc in absurd no), λ e g. ap (λ b. is_in path name x || b) (rest.1 y l) ∙ or-true (is_in path name x))
 
--- at file scope just the declarations with linkage stand
+-- at file scope just the declarations with linkage stand:
 path_linked : (e : Entry) → e.linked ≡ is_file_scope e.path → bytes_eq e.path [] ≡ e.linked
 path_linked e x = by e.path x
   where
