@@ -4,7 +4,7 @@ use Rattle.std.specs.Prelude.{if◌then◌else◌}
 use Rattle.std.specs.Option.{option_map, option_or, option_and_then, is_some}
 use Rattle.cr_small.specs.Tokens.{Token}
 use Rattle.cr_small.specs.Declarations.{Entry, lookup, is_linked, first_linked, token_or, entity_of, is_redeclared}
-use Rattle.cr_small.specs.Resolution.{Bindings, Bound, bound, resolved, declared, denotation, entry_at, mentioned}
+use Rattle.cr_small.specs.Resolution.{Bindings, Bound, is_file_scope, bound, resolved, declared, denotation, entry_at, mentioned}
 use Rattle.cr_small.specs.declared.grammar.Storage.{Storage}
 use Rattle.cr_small.specs.declared.grammar.Part.{Part}
 use Rattle.cr_small.specs.declared.grammar.Part.TheVariants as part
@@ -47,7 +47,7 @@ module _ (f : ℕ → List ℕ) (entity : ℕ) (new : List ℕ) where
     where
       by : (x : Bool) → Settles b (if x then None else Some (record { after = record { entries = b.entries ++ entry_at b function word text n ∷ []; path = b.path; next = b.next }; denotes = Some (denotation (b.entries ++ entry_at b function word text n ∷ []) (entry_at b function word text n)) }))
       by true = tt
-      by false = (λ d h. settled-push b.entries (entry_at b function word text n) d h, denotation-settled (b.entries ++ entry_at b function word text n ∷ []) (entry_at b function word text n) (known-push f entity new b.entries (entry_at b function word text n) all own fresh) (known-self f entity new b.entries (entry_at b function word text n) own fresh))
+      by false = (λ d h. settled-push b.entries (entry_at b function word text n) d h, denotation-settled (b.entries ++ entry_at b function word text n ∷ []) (entry_at b function word text n) (known-push f entity new b.entries (entry_at b function word text n) all own fresh (λ p. ap is_file_scope p)) (known-self f entity new b.entries (entry_at b function word text n) own fresh (λ p. ap is_file_scope p)))
 
   mentioned-settles : (b : Bindings) (text : List ℕ) (o : Option Entry) → All (IsKnown f entity new b.entries) b.entries → lookup b.entries text b.path ≡ o → Settles b (mentioned b o)
   mentioned-settles b text None all h = tt

@@ -283,7 +283,7 @@ module _ (s : Scopes) (b : Bindings) (function : Bool) (word : Option Storage) (
   -- inside braces a declaration has no linkage, whatever its storage word
   inside_own : s.in_body ≡ true → (record { function = function; token = token; internal = false }) ≡ own
   inside_own inside =
-      ap (λ x. record { function = function; token = token; internal = x && is_internal function (is_seen_internal (first_linked name b.entries)) word })
+      ap (λ x. record { function = function; token = token; internal = x && is_internal function (is_seen_internal (lookup b.entries name b.path)) word })
       (sym (inside_internal b.next b.path (subst (λ x. IsPresent x b.next b.path) inside h.present)))
 
   pub declared_in_body : (grown : Scopes) → s.in_body ≡ true → grown.in_body ≡ true → grown.file.entries ≡ s.file.entries
@@ -357,12 +357,14 @@ module _ (s : Scopes) (b : Bindings) (function : Bool) (word : Option Storage) (
   pub linkage_seen : s.in_body ≡ false → (seen : Option Symbol) → seen ≡ symbol_in name s.file.entries → is_internal function (is_internal_symbol seen) word ≡ own.internal
   linkage_seen outside seen e =
       ap (λ o. is_internal function (is_internal_symbol o) word) (e ∙ h.file name)
-      ∙ ap (λ x. is_internal function x word) (by (first_linked name b.entries))
-      ∙ sym (ap (λ x. x && is_internal function (is_seen_internal (first_linked name b.entries)) word) (ap is_file_scope (at_file_scope outside)))
+      ∙ ap (λ x. is_internal function x word) one
+      ∙ sym (ap (λ p. is_file_scope p && is_internal function (is_seen_internal (lookup b.entries name p)) word) (at_file_scope outside))
     where
-      by : (o : Option Entry) → is_internal_symbol (option_map symbol_of o) ≡ is_seen_internal o
-      by None = refl
-      by (Some y) = refl
+      one : is_internal_symbol (option_map symbol_of (first_linked name b.entries)) ≡ is_seen_internal (last_in [] name b.entries)
+      one = elim (file_mention b.entries b.next name h.opened) [
+        | inl none ↦ ap (λ o. is_internal_symbol (option_map symbol_of o)) none.1 ∙ sym (ap is_seen_internal none.0)
+        | inr some ↦ ap (λ o. is_internal_symbol (option_map symbol_of o)) some.3 ∙ same_linkage b.entries b.next name some.0 some.1 h.opened h.one_kind some.2 some.3 ∙ sym (ap is_seen_internal some.2)
+      ]
 
   pub again_in_file : s.in_body ≡ false → (first : Symbol) (internal : Bool) → symbol_in name s.file.entries ≡ Some first → internal ≡ own.internal → Answers s (declared b (entry_at b function word name token)) (again_answer first function internal)
   again_in_file outside first internal f is = subst (λ i. Answers s (declared b (entry_at b function word name token)) (again_answer first function i)) (sym is) (by (first_linked name b.entries) refl (sym f ∙ h.file name))

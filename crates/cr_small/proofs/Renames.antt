@@ -12,7 +12,7 @@ use Rattle.cr_small.specs.declared.grammar.Part.{Part}
 use Rattle.cr_small.specs.declared.grammar.Part.TheVariants as part
 use Rattle.cr_small.specs.declared.binder.Denotation.{Denotation}
 use Rattle.cr_small.proofs.Flat.{both, bytes_eq-true, bytes_eq-refl, find-push, last_in-any}
-use Rattle.cr_small.proofs.Names.{All, All-push, All-lookup, IsNamed, entity-named, TextsFrom}
+use Rattle.cr_small.proofs.Names.{All, All-push, All-last_in, All-lookup, IsNamed, entity-named, TextsFrom}
 
 pub All-map : (P Q : Entry → Type 0) (es : List Entry) → ((e : Entry) → P e → Q e) → All P es → All Q es
 All-map P Q [] h a = tt
@@ -104,12 +104,12 @@ module _ (f : ℕ → List ℕ) (entity : ℕ) (new : List ℕ) where
   abbrev pub rename : List Entry → Entry → Entry
   rename es e = record { path = e.path; name = if entity_of es e == entity then new else e.name; token = e.token; function = e.function; linked = e.linked; internal = e.internal }
 
-  -- what is known of each entry: it is named as its token is spelled, not by the new name, and is known by its name if it has linkage
+  -- what is known of each entry: it is named as its token is spelled, not by the new name, is known by its name if it has linkage, and has it at file scope
   abbrev pub IsFresh : List ℕ → Type 0
   IsFresh name = bytes_eq name new ≡ false
 
   abbrev pub IsKnown : List Entry → Entry → Type 0
-  IsKnown es e = IsNamed f e × IsFresh e.name × (e.linked ≡ true → is_some (first_linked e.name es) ≡ true)
+  IsKnown es e = IsNamed f e × IsFresh e.name × (e.linked ≡ true → is_some (first_linked e.name es) ≡ true) × (e.path ≡ [] → e.linked ≡ true)
 
   abbrev pub renamed : Bindings → Bindings
   renamed b = record { entries = map (rename b.entries) b.entries; path = b.path; next = b.next }
@@ -195,21 +195,21 @@ module _ (f : ℕ → List ℕ) (entity : ℕ) (new : List ℕ) where
       ∙ ap (λ l. l ++ rename (es ++ e ∷ []) e ∷ []) (map-all (rename (es ++ e ∷ [])) (rename es) es (All-map (IsKnown es) (λ y. rename (es ++ e ∷ []) y ≡ rename es y) es (λ y k. rename-push es e y k) all))
 
   -- a new entry is known among the others
-  pub known-self : (es : List Entry) (e : Entry) → IsNamed f e → IsFresh e.name → IsKnown (es ++ e ∷ []) e
-  known-self es e own fresh = (own, fresh, λ x. ap is_some (find-push (is_linked e.name) es e) ∙ by (first_linked e.name es) (ap (λ b. b && bytes_eq e.name e.name) x ∙ bytes_eq-refl e.name))
+  pub known-self : (es : List Entry) (e : Entry) → IsNamed f e → IsFresh e.name → (e.path ≡ [] → e.linked ≡ true) → IsKnown (es ++ e ∷ []) e
+  known-self es e own fresh at_file = (own, fresh, λ x. ap is_some (find-push (is_linked e.name) es e) ∙ by (first_linked e.name es) (ap (λ b. b && bytes_eq e.name e.name) x ∙ bytes_eq-refl e.name), at_file)
     where
       by : (o : Option Entry) → is_linked e.name e ≡ true → is_some (option_or o (if is_linked e.name e then Some e else None)) ≡ true
       by None h = ap (λ b. is_some (if b then Some e else None)) h
       by (Some w) h = refl
 
   still-known : (es : List Entry) (new_one e : Entry) → IsKnown es e → IsKnown (es ++ new_one ∷ []) e
-  still-known es new_one e k = (k.0, k.1, λ x. ap is_some (some-push es new_one e.name (k.2 x)) ∙ k.2 x)
+  still-known es new_one e k = (k.0, k.1, λ x. ap is_some (some-push es new_one e.name (k.2 x)) ∙ k.2 x, k.3)
 
-  pub known-push : (es : List Entry) (e : Entry) → All (IsKnown es) es → IsNamed f e → IsFresh e.name → All (IsKnown (es ++ e ∷ [])) (es ++ e ∷ [])
-  known-push es e all own fresh =
+  pub known-push : (es : List Entry) (e : Entry) → All (IsKnown es) es → IsNamed f e → IsFresh e.name → (e.path ≡ [] → e.linked ≡ true) → All (IsKnown (es ++ e ∷ [])) (es ++ e ∷ [])
+  known-push es e all own fresh at_file =
       All-push (IsKnown (es ++ e ∷ [])) es e
       (All-map (IsKnown es) (IsKnown (es ++ e ∷ [])) es (λ y k. still-known es e y k) all)
-      (known-self es e own fresh)
+      (known-self es e own fresh at_file)
 
   abbrev pub text_behind : List ℕ → Option Denotation → List ℕ
   text_behind text d = if denotes_entity entity d then new else text
@@ -239,26 +239,33 @@ module _ (f : ℕ → List ℕ) (entity : ℕ) (new : List ℕ) where
 
   -- the declaration with the new name sees the linkage that the declaration saw
   seen-kept : (b : Bindings) (e : Entry) → All (IsKnown b.entries) b.entries → All (IsKnown (b.entries ++ e ∷ [])) (b.entries ++ e ∷ []) → IsKnown (b.entries ++ e ∷ []) e → e.linked ≡ true
-      → is_seen_internal (first_linked (rename (b.entries ++ e ∷ []) e).name (map (rename b.entries) b.entries)) ≡ is_seen_internal (first_linked e.name b.entries)
-  seen-kept b e all known k x =
-      ap is_seen_internal (find-map (is_linked e.name) (is_linked (rename es e).name) (rename b.entries) b.entries (All-map (IsKnown b.entries) (λ y. is_linked (rename es e).name (rename b.entries y) ≡ is_linked e.name y) b.entries one all))
-      ∙ by (first_linked e.name b.entries)
+      → is_seen_internal (last_in [] (rename (b.entries ++ e ∷ []) e).name (map (rename b.entries) b.entries)) ≡ is_seen_internal (last_in [] e.name b.entries)
+  seen-kept b e all known k x = by (last_in [] e.name b.entries) refl
     where
       es : List Entry
       es = b.entries ++ e ∷ []
 
-      one : (y : Entry) → IsKnown b.entries y → is_linked (rename es e).name (rename b.entries y) ≡ is_linked e.name y
-      one y l = ap (is_linked (rename es e).name) (sym (rename-push b.entries e y l)) ∙ linked-kept es e known k x y (still-known b.entries e y l)
+      c : Bool
+      c = entity_of es e == entity
 
-      by : (o : Option Entry) → is_seen_internal (option_map (rename b.entries) o) ≡ is_seen_internal o
-      by None = refl
-      by (Some w) = refl
+      apart_all : All (IsApart (rename b.entries) e.name (rename es e).name) b.entries
+      apart_all = All-map (IsKnown b.entries) (IsApart (rename b.entries) e.name (rename es e).name) b.entries (λ y l. apart b.entries e.name c all k.1 (λ g. named es e known k g) y l) all
+
+      own : (y : Entry) → last_in [] e.name b.entries ≡ Some y → (rename b.entries y).name ≡ (rename es e).name
+      own y h =
+          let l = All-last_in (IsKnown b.entries) [] e.name b.entries y all h in
+          let one : entity_of b.entries y ≡ entity_of es e = sym (entity-push b.entries e y l.0) ∙ one-entity es e y k (still-known b.entries e y l.0) x (l.0.3 l.2) l.1 in
+          ap (λ w. if w == entity then new else y.name) one ∙ ap (λ m. if entity_of es e == entity then new else m) l.1
+
+      by : (o : Option Entry) → last_in [] e.name b.entries ≡ o → is_seen_internal (last_in [] (rename es e).name (map (rename b.entries) b.entries)) ≡ is_seen_internal o
+      by None h = ap is_seen_internal (last_in-none (rename b.entries) [] e.name (rename es e).name b.entries apart_all h)
+      by (Some y) h = ap is_seen_internal (last_in-some (rename b.entries) [] e.name (rename es e).name b.entries y apart_all h (own y h))
 
   -- so it is the declaration with the new name
   declares-renamed : (b : Bindings) (n : ℕ) (text : List ℕ) (function : Bool) (word : Option Storage) → All (IsKnown b.entries) b.entries
       → (let e = entry_at b function word text n in All (IsKnown (b.entries ++ e ∷ [])) (b.entries ++ e ∷ []) → IsKnown (b.entries ++ e ∷ []) e
       → entry_at (renamed b) function word (rename (b.entries ++ e ∷ []) e).name n ≡ rename (b.entries ++ e ∷ []) e)
-  declares-renamed b n text function word all known k = ap (λ i. record { path = b.path; name = name'; token = n; function = function; linked = is_file_scope b.path; internal = i }) (by (is_file_scope b.path) refl)
+  declares-renamed b n text function word all known k = ap (λ i. record { path = b.path; name = name'; token = n; function = function; linked = is_file_scope b.path; internal = i }) (by b.path refl)
     where
       e : Entry
       e = entry_at b function word text n
@@ -266,10 +273,10 @@ module _ (f : ℕ → List ℕ) (entity : ℕ) (new : List ℕ) where
       name' : List ℕ
       name' = (rename (b.entries ++ e ∷ []) e).name
 
-      by : (x : Bool) → is_file_scope b.path ≡ x
-          → (x && is_internal function (is_seen_internal (first_linked name' (map (rename b.entries) b.entries))) word) ≡ (x && is_internal function (is_seen_internal (first_linked text b.entries)) word)
-      by false h = refl
-      by true h = ap (λ s. is_internal function s word) (seen-kept b e all known k h)
+      by : (path : List ℕ) → b.path ≡ path
+          → (is_file_scope path && is_internal function (is_seen_internal (lookup (map (rename b.entries) b.entries) name' path)) word) ≡ (is_file_scope path && is_internal function (is_seen_internal (lookup b.entries text path)) word)
+      by [] h = ap (λ s. is_internal function s word) (seen-kept b e all known k (ap is_file_scope h))
+      by (scope ∷ out) h = refl
 
   declared-free : (b : Bindings) (e : Entry) → is_redeclared b.entries e ≡ false
       → declared b e ≡ Some (record { after = record { entries = b.entries ++ e ∷ []; path = b.path; next = b.next }; denotes = Some (denotation (b.entries ++ e ∷ []) e) })
@@ -288,8 +295,8 @@ module _ (f : ℕ → List ℕ) (entity : ℕ) (new : List ℕ) where
   declare-follows b n text function word all fresh own false r d h =
       let e = entry_at b function word text n in
       let es = b.entries ++ e ∷ [] in
-      let known = known-push b.entries e all own fresh in
-      let k : IsKnown es e = known-self b.entries e own fresh in
+      let known = known-push b.entries e all own fresh (λ p. ap is_file_scope p) in
+      let k : IsKnown es e = known-self b.entries e own fresh (λ p. ap is_file_scope p) in
       let c = entity_of es e == entity in
       let mine : c ≡ true → f entity ≡ text = λ g. named es e known k g in
       let a = All-map (IsKnown b.entries) (λ y. clashes (rename es e) (rename b.entries y) ≡ true → clashes e y ≡ true) b.entries

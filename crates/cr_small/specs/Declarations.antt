@@ -50,16 +50,16 @@ abbrev pub both_or_neither : Bool → Bool → Bool
 both_or_neither true b = b
 both_or_neither false b = not b
 
--- Whether a declaration at file scope has internal linkage: of a function or an object; where the linkage that earlier
--- declarations of its name show is internal or not; with a storage word or none. With `static` it has (C11 6.2.2p3).
--- With `extern` (p4), and of a function without a word (p5), it has the linkage that is seen, and else external
--- linkage. Of an object without a word it has external linkage (p5).
+-- Whether a declaration at file scope has internal linkage: of a function or an object; where the visible declaration
+-- of its name has internal linkage or not; with a storage word or none. With `static` it has (C11 6.2.2p3). With
+-- `extern` (p4), and of a function without a word (p5), it has the linkage of the visible declaration, and else
+-- external linkage. Of an object without a word it has external linkage (p5).
 abbrev pub is_internal : Bool → Bool → Option Storage → Bool
 is_internal function seen None = function && seen
 is_internal function seen (Some storage.Static) = true
 is_internal function seen (Some storage.Extern) = seen
 
--- the seen declaration of a name has internal linkage
+-- the visible declaration of a name has internal linkage
 abbrev pub is_seen_internal : Option Entry → Bool
 is_seen_internal None = false
 is_seen_internal (Some entry) = entry.internal

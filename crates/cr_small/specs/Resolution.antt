@@ -4,7 +4,7 @@ use Rattle.std.specs.Option.{option_map, option_and_then}
 use Rattle.std.specs.List.{zip}
 use Rattle.cr_small.specs.Tokens.{Token}
 use Rattle.cr_small.specs.Tree.{External, parts}
-use Rattle.cr_small.specs.Declarations.{Entry, lookup, first_linked, is_internal, is_seen_internal, entity_of, is_redeclared}
+use Rattle.cr_small.specs.Declarations.{Entry, lookup, is_internal, is_seen_internal, entity_of, is_redeclared}
 use Rattle.cr_small.specs.declared.grammar.Storage.{Storage}
 use Rattle.cr_small.specs.declared.grammar.Part.{Part}
 use Rattle.cr_small.specs.declared.grammar.Part.TheVariants as part
@@ -40,8 +40,8 @@ denotation entries entry = record { token = entity_of entries entry; linked = en
 abbrev pub unchanged : Bindings → Option Bound
 unchanged b = Some (record { after = b; denotes = None })
 
--- A declaration takes the present scope. It has linkage at file scope, where all earlier declarations of its name
--- with linkage are seen, and none inside braces (C11 6.2.2p5, p6).
+-- A declaration takes the present scope. It has linkage at file scope, where the visible declaration of its name has
+-- one too, and none inside braces (C11 6.2.2p5, p6).
 abbrev pub entry_at : Bindings → Bool → Option Storage → List ℕ → ℕ → Entry
 entry_at b function word name token = record {
   path = b.path;
@@ -49,7 +49,7 @@ entry_at b function word name token = record {
   token = token;
   function = function;
   linked = is_file_scope b.path;
-  internal = is_file_scope b.path && is_internal function (is_seen_internal (first_linked name b.entries)) word;
+  internal = is_file_scope b.path && is_internal function (is_seen_internal (lookup b.entries name b.path)) word;
 }
 
 abbrev pub declared : Bindings → Entry → Option Bound
