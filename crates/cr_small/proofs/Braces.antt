@@ -3,7 +3,7 @@ use Rattle.std.proofs.Common.{◌≡◌, Bool, true, false, List, [], ◌∷◌,
 use Rattle.std.specs.List.{flat_map}
 use Rattle.cr_small.specs.Tokens.{Token}
 use Rattle.cr_small.specs.Terminals.{has_plain_names}
-use Rattle.cr_small.specs.Tree.{Item, number, mention, call, Sum, Statement, local, returns, evaluates, External, object, prototype, definition, Leaf, item_leaves, more_leaves, sum_leaves, initialiser_leaves, object_leaves, statement_leaves, closing, external_leaves, leaves, parts, plain, Derives}
+use Rattle.cr_small.specs.Tree.{Item, number, mention, call, Sum, Statement, local, returns, evaluates, External, Declaration, object, prototype, definition, Leaf, item_leaves, more_leaves, sum_leaves, initialiser_leaves, object_leaves, statement_leaves, closing, declaration_leaves, word_leaves, external_leaves, leaves, parts, plain, Derives}
 use Rattle.cr_small.specs.Derivation.{HasParts}
 use Rattle.std.specs.List.{zip}
 use Rattle.cr_small.specs.Resolution.{resolved, file_scope}
@@ -11,6 +11,8 @@ use Rattle.cr_small.specs.SmallForm.{Resolves, DenotesOne}
 use Rattle.cr_small.specs.Machine.{run}
 use Rattle.cr_small.specs.Holding.{AreBraced}
 use Rattle.cr_small.specs.declared.terminal.Terminal.TheVariants as terminal
+use Rattle.cr_small.specs.declared.grammar.Storage.{Storage}
+use Rattle.cr_small.specs.declared.grammar.Storage.TheVariants as storage
 use Rattle.cr_small.specs.declared.grammar.Part.{Part}
 use Rattle.cr_small.specs.declared.grammar.Level.TheVariants as level
 use Rattle.cr_small.specs.declared.grammar.State.TheVariants as state
@@ -43,12 +45,12 @@ neutral-initialiser : (init : Option Sum) → IsNeutral (initialiser_leaves init
 neutral-initialiser None rest in_body h = h
 neutral-initialiser (Some sum) rest in_body h = (tt, neutral-sum sum rest in_body h)
 
-neutral-object : (init : Option Sum) → IsNeutral (object_leaves init)
-neutral-object init rest in_body h =
+neutral-object : (word : Option Storage) (init : Option Sum) → IsNeutral (object_leaves word init)
+neutral-object word init rest in_body h =
     (tt, (tt, neutral-append (initialiser_leaves init) (plain terminal.Semicolon ∷ []) (neutral-initialiser init) (λ r i g. (tt, g)) rest in_body h))
 
 neutral-statement : (s : Statement) → IsNeutral (statement_leaves s)
-neutral-statement (local init) rest in_body h = neutral-object init rest in_body h
+neutral-statement (local init) rest in_body h = neutral-object None init rest in_body h
 neutral-statement (returns sum) rest in_body h = (tt, neutral-append (sum_leaves sum) (plain terminal.Semicolon ∷ []) (neutral-sum sum) (λ r i g. (tt, g)) rest in_body h)
 neutral-statement (evaluates sum) rest in_body h = neutral-append (sum_leaves sum) (plain terminal.Semicolon ∷ []) (neutral-sum sum) (λ r i g. (tt, g)) rest in_body h
 
@@ -56,11 +58,21 @@ neutral-statements : (ss : List Statement) → IsNeutral (flat_map statement_lea
 neutral-statements [] rest in_body h = h
 neutral-statements (s ∷ ss) rest in_body h = neutral-append (statement_leaves s) (flat_map statement_leaves ss) (neutral-statement s) (neutral-statements ss) rest in_body h
 
-braced-external : (e : External) (rest : List Leaf) → Braced rest false → Braced (external_leaves e ++ rest) false
-braced-external (object init) rest h = neutral-object init rest false h
-braced-external prototype rest h = (tt, (tt, (tt, (tt, (tt, (tt, h))))))
-braced-external (definition ss) rest h =
+neutral-word : (word : Option Storage) → IsNeutral (word_leaves word)
+neutral-word None rest in_body h = h
+neutral-word (Some storage.Static) rest in_body h = (tt, h)
+neutral-word (Some storage.Extern) rest in_body h = (tt, h)
+
+braced-declaration : (word : Option Storage) (d : Declaration) (rest : List Leaf) → Braced rest false → Braced (declaration_leaves word d ++ rest) false
+braced-declaration word (object init) rest h = neutral-object word init rest false h
+braced-declaration word prototype rest h = (tt, (tt, (tt, (tt, (tt, (tt, h))))))
+braced-declaration word (definition ss) rest h =
     (tt, (tt, (tt, (tt, (tt, (refl, subst (λ l. Braced l true) (sym (append_assoc (flat_map statement_leaves ss) (closing ∷ []) rest)) (neutral-statements ss (closing ∷ rest) true (tt, h))))))))
+
+braced-external : (e : External) (rest : List Leaf) → Braced rest false → Braced (external_leaves e ++ rest) false
+braced-external e rest h =
+    subst (λ l. Braced l false) (sym (append_assoc (word_leaves e.word) (declaration_leaves e.word e.declaration) rest))
+    (neutral-word e.word (declaration_leaves e.word e.declaration ++ rest) false (braced-declaration e.word e.declaration rest h))
 
 pub braced-tree : (tree : List External) → AreBraced (parts tree) false
 braced-tree [] = tt

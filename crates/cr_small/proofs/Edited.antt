@@ -7,7 +7,7 @@ use Rattle.std.specs.List.{list_all, zip}
 use Rattle.cr_base.specs.Names.{is_word_byte}
 use Rattle.cr_base.specs.Substitution.{Rise, substituted_from}
 use Rattle.cr_small.specs.Tokens.{Token, is_blank, begins_word}
-use Rattle.cr_small.specs.Renaming.{denotes_entity, places_of}
+use Rattle.cr_small.proofs.Entities.{denotes_entity, places_of}
 use Rattle.cr_small.specs.declared.binder.Denotation.{Denotation}
 use Rattle.cr_small.proofs.Flat.{bool_cases}
 use Rattle.cr_small.proofs.Cuts.{both, InOrder}

@@ -4,7 +4,7 @@ use Rattle.std.specs.Prelude.{if◌then◌else◌, bytes_eq}
 use Rattle.std.specs.List.{list_any, find}
 use Rattle.std.specs.Option.{option_or}
 use Rattle.std.proofs.lemmas.Slice.Eq.{bytes_eq-Decides}
-use Rattle.cr_small.specs.Declarations.{Entry, is_in, last_in, is_external, both_or_neither, clashes, is_redeclared}
+use Rattle.cr_small.specs.Declarations.{Entry, is_in, last_in, is_linked, both_or_neither, clashes, is_redeclared}
 use Rattle.cr_small.specs.Resolution.{is_file_scope}
 use Rattle.cr_small.specs.Holding.{IsOpened, AllOpened, other_kind}
 
@@ -21,6 +21,11 @@ bool_cases false = inr refl
 pub both : (a b : Bool) → (a && b) ≡ true → (a ≡ true) × (b ≡ true)
 both true b h = (refl, h)
 both false b h = let no : ⊥ = cc in absurd no
+
+pub agreed : (a b : Bool) → both_or_neither a b ≡ true → a ≡ b
+agreed true b e = sym e
+agreed false true e = let no : ⊥ = cc in absurd no
+agreed false false e = refl
 
 pub or-false : (a b : Bool) → a ≡ false → b ≡ false → (a || b) ≡ false
 or-false true b h k = let no : ⊥ = cc in absurd no
@@ -104,7 +109,7 @@ pub AllOpened-more : (es : List Entry) (next : ℕ) → AllOpened next es → Al
 AllOpened-more [] next h = tt
 AllOpened-more (e ∷ es) next h = (IsOpened-more e.path next h.0, h.1, AllOpened-more es next h.2)
 
-pub AllOpened-push : (es : List Entry) (next : ℕ) (e : Entry) → AllOpened next es → IsOpened next e.path → e.external ≡ is_file_scope e.path → AllOpened next (es ++ e ∷ [])
+pub AllOpened-push : (es : List Entry) (next : ℕ) (e : Entry) → AllOpened next es → IsOpened next e.path → e.linked ≡ is_file_scope e.path → AllOpened next (es ++ e ∷ [])
 AllOpened-push [] next e h o x = (o, x, tt)
 AllOpened-push (y ∷ ys) next e h o x = (h.0, h.1, AllOpened-push ys next e h.2 o x)
 
@@ -122,22 +127,39 @@ unopened (e ∷ es) next name h =
     ]
 
 -- what a look-up finds is of the scope and name
-pub last_in-Some : (path name : List ℕ) (es : List Entry) (next : ℕ) (e : Entry) → AllOpened next es → last_in path name es ≡ Some e → (e.path ≡ path) × (e.name ≡ name) × (e.external ≡ is_file_scope path)
+pub last_in-Some : (path name : List ℕ) (es : List Entry) (next : ℕ) (e : Entry) → AllOpened next es → last_in path name es ≡ Some e → (e.path ≡ path) × (e.name ≡ name) × (e.linked ≡ is_file_scope path)
 last_in-Some path name [] next e h f = let no : ⊥ = cc in absurd no
 last_in-Some path name (x ∷ xs) next e h f = by (last_in path name xs) refl (λ y g. last_in-Some path name xs next y h.2 g) f
   where
-    at : (b : Bool) → is_in path name x ≡ b → (if b then Some x else None) ≡ Some e → (e.path ≡ path) × (e.name ≡ name) × (e.external ≡ is_file_scope path)
+    at : (b : Bool) → is_in path name x ≡ b → (if b then Some x else None) ≡ Some e → (e.path ≡ path) × (e.name ≡ name) × (e.linked ≡ is_file_scope path)
     at true t g =
         let same : x ≡ e = cc in
         let w = both (bytes_eq x.path path) (bytes_eq x.name name) t in
         let p : x.path ≡ path = bytes_eq-true x.path path w.0 in
-        subst (λ y. (y.path ≡ path) × (y.name ≡ name) × (y.external ≡ is_file_scope path)) same (p, bytes_eq-true x.name name w.1, h.1 ∙ ap is_file_scope p)
+        subst (λ y. (y.path ≡ path) × (y.name ≡ name) × (y.linked ≡ is_file_scope path)) same (p, bytes_eq-true x.name name w.1, h.1 ∙ ap is_file_scope p)
     at false t g = let no : ⊥ = cc in absurd no
 
-    by : (o : Option Entry) → last_in path name xs ≡ o → ((y : Entry) → last_in path name xs ≡ Some y → (y.path ≡ path) × (y.name ≡ name) × (y.external ≡ is_file_scope path))
-        → option_or o (if is_in path name x then Some x else None) ≡ Some e → (e.path ≡ path) × (e.name ≡ name) × (e.external ≡ is_file_scope path)
+    by : (o : Option Entry) → last_in path name xs ≡ o → ((y : Entry) → last_in path name xs ≡ Some y → (y.path ≡ path) × (y.name ≡ name) × (y.linked ≡ is_file_scope path))
+        → option_or o (if is_in path name x then Some x else None) ≡ Some e → (e.path ≡ path) × (e.name ≡ name) × (e.linked ≡ is_file_scope path)
     by None l rest g = at (is_in path name x) refl g
-    by (Some y) l rest g = let same : y ≡ e = cc in subst (λ y. (y.path ≡ path) × (y.name ≡ name) × (y.external ≡ is_file_scope path)) same (rest y l)
+    by (Some y) l rest g = let same : y ≡ e = cc in subst (λ y. (y.path ≡ path) × (y.name ≡ name) × (y.linked ≡ is_file_scope path)) same (rest y l)
+
+-- what fails for each entry fails for the one that a look-up finds
+pub last_in-none : (t : Entry → Bool) (path name : List ℕ) (es : List Entry) (e : Entry) → last_in path name es ≡ Some e → list_any t es ≡ false → t e ≡ false
+last_in-none t path name [] e h none = let no : ⊥ = cc in absurd no
+last_in-none t path name (x ∷ xs) e h none = by (last_in path name xs) h (λ y g. last_in-none t path name xs y g (neither (t x) (list_any t xs) none).1)
+  where
+    neither : (a b : Bool) → (a || b) ≡ false → (a ≡ false) × (b ≡ false)
+    neither true b g = let no : ⊥ = cc in absurd no
+    neither false b g = (refl, g)
+
+    at : (b : Bool) → (if b then Some x else None) ≡ Some e → t e ≡ false
+    at true g = let same : x ≡ e = cc in subst (λ y. t y ≡ false) same (neither (t x) (list_any t xs) none).0
+    at false g = let no : ⊥ = cc in absurd no
+
+    by : (o : Option Entry) → option_or o (if is_in path name x then Some x else None) ≡ Some e → ((y : Entry) → o ≡ Some y → t y ≡ false) → t e ≡ false
+    by None g rest = at (is_in path name x) g
+    by (Some y) g rest = let same : y ≡ e = cc in subst (λ y. t y ≡ false) same (rest y refl)
 
 pub last_in-any : (path name : List ℕ) (es : List Entry) → (last_in path name es ≡ None → list_any (is_in path name) es ≡ false) × ((e : Entry) → last_in path name es ≡ Some e → list_any (is_in path name) es ≡ true)
 last_in-any path name [] = (λ h. refl, λ e h. let no : ⊥ = cc in absurd no)
@@ -157,40 +179,49 @@ last_in-any path name (x ∷ xs) = by (last_in path name xs) refl (last_in-any p
     by None l rest = at (is_in path name x) (rest.0 l)
     by (Some y) l rest = (λ g. (let no : ⊥ = cc in absurd no), λ e g. ap (λ b. is_in path name x || b) (rest.1 y l) ∙ or-true (is_in path name x))
 
--- at file scope just the external declarations stand
-pub at_file : (e : Entry) (next : ℕ) (name : List ℕ) → IsOpened next e.path → e.external ≡ is_file_scope e.path → is_in [] name e ≡ is_external name e
-at_file e next name o x = ap (λ b. b && bytes_eq e.name name) (by e.path x)
+-- at file scope just the declarations with linkage stand:
+path_linked : (e : Entry) → e.linked ≡ is_file_scope e.path → bytes_eq e.path [] ≡ e.linked
+path_linked e x = by e.path x
   where
-    by : (path : List ℕ) → e.external ≡ is_file_scope path → bytes_eq path [] ≡ e.external
+    by : (path : List ℕ) → e.linked ≡ is_file_scope path → bytes_eq path [] ≡ e.linked
     by [] x = sym x
     by (k ∷ rest) x = sym x
 
-pub any_at_file : (es : List Entry) (next : ℕ) (name : List ℕ) → AllOpened next es → list_any (is_in [] name) es ≡ list_any (is_external name) es
+pub at_file : (e : Entry) (next : ℕ) (name : List ℕ) → IsOpened next e.path → e.linked ≡ is_file_scope e.path → is_in [] name e ≡ is_linked name e
+at_file e next name o x = ap (λ b. b && bytes_eq e.name name) (path_linked e x)
+
+pub any_at_file : (es : List Entry) (next : ℕ) (name : List ℕ) → AllOpened next es → list_any (is_in [] name) es ≡ list_any (is_linked name) es
 any_at_file [] next name h = refl
 any_at_file (e ∷ es) next name h =
-    ap (λ b. b || list_any (is_in [] name) es) (at_file e next name h.0 h.1) ∙ ap (λ b. is_external name e || b) (any_at_file es next name h.2)
+    ap (λ b. b || list_any (is_in [] name) es) (at_file e next name h.0 h.1) ∙ ap (λ b. is_linked name e || b) (any_at_file es next name h.2)
 
 -- the clashes of a declaration at file scope
-pub file_clashes : (es : List Entry) (next : ℕ) (new : Entry) → AllOpened next es → new.path ≡ [] → new.external ≡ true → is_redeclared es new ≡ list_any (other_kind new.function new.name) es
+pub file_clashes : (es : List Entry) (next : ℕ) (new : Entry) → AllOpened next es → new.path ≡ [] → new.linked ≡ true → is_redeclared es new ≡ list_any (other_kind new.function new.internal new.name) es
 file_clashes [] next new h p x = refl
 file_clashes (e ∷ es) next new h p x =
-    ap (λ b. b || is_redeclared es new) (one e h.0 h.1) ∙ ap (λ b. other_kind new.function new.name e || b) (file_clashes es next new h.2 p x)
+    ap (λ b. b || is_redeclared es new) (one e h.0 h.1) ∙ ap (λ b. other_kind new.function new.internal new.name e || b) (file_clashes es next new h.2 p x)
   where
-    flags : (a b c d : Bool) → (a && b && not (a && c)) ≡ (a && b && not c)
-    flags true b c d = refl
-    flags false b c d = refl
+    flags : (a n k l : Bool) → (n && ((a && not (a && k)) || (a && not l))) ≡ ((a && n) && not (k && l))
+    flags true true true true = refl
+    flags true true true false = refl
+    flags true true false l = refl
+    flags true false k l = refl
+    flags false true k l = refl
+    flags false false k l = refl
 
-    one : (e : Entry) → IsOpened next e.path → e.external ≡ is_file_scope e.path → clashes new e ≡ other_kind new.function new.name e
-    one e o y = rw (p, x, at_file e next new.name o y) (flags e.external (bytes_eq e.name new.name) (both_or_neither new.function e.function) true)
+    one : (e : Entry) → IsOpened next e.path → e.linked ≡ is_file_scope e.path → clashes new e ≡ other_kind new.function new.internal new.name e
+    one e o y = rw (p, x, path_linked e y) (flags e.linked (bytes_eq e.name new.name) (both_or_neither new.function e.function) (both_or_neither new.internal e.internal))
 
 -- the clashes of a declaration without linkage
-pub body_clashes : (es : List Entry) (new : Entry) → new.external ≡ false → is_redeclared es new ≡ list_any (is_in new.path new.name) es
+pub body_clashes : (es : List Entry) (new : Entry) → new.linked ≡ false → is_redeclared es new ≡ list_any (is_in new.path new.name) es
 body_clashes [] new x = refl
 body_clashes (e ∷ es) new x = ap (λ b. b || is_redeclared es new) (one e) ∙ ap (λ b. is_in new.path new.name e || b) (body_clashes es new x)
   where
-    with-true : (b : Bool) → (b && true) ≡ b
-    with-true true = refl
-    with-true false = refl
+    flags : (p n : Bool) → (n && ((p && true) || false)) ≡ (p && n)
+    flags true true = refl
+    flags true false = refl
+    flags false true = refl
+    flags false false = refl
 
     one : (e : Entry) → clashes new e ≡ is_in new.path new.name e
-    one e = rw x (with-true (is_in new.path new.name e))
+    one e = rw x (flags (bytes_eq e.path new.path) (bytes_eq e.name new.name))

@@ -1,5 +1,5 @@
 -- A rename to a name that a text doesn't have keeps the meaning of the text.
-use Rattle.std.proofs.Common.{◌≡◌, ℕ, ◌+◌, ◌≤◌, Bool, true, false, ◌||◌, List, [], ◌∷◌, length, map, slice_get, Option, Some, None, refl, sym, ap, ◌∙◌, subst, arith, zero, suc}
+use Rattle.std.proofs.Common.{◌≡◌, ℕ, ◌+◌, ◌≤◌, Bool, true, false, not, ◌||◌, List, [], ◌∷◌, length, map, slice_get, Option, Some, None, refl, sym, ap, ◌∙◌, subst, arith, zero, suc}
 use Rattle.std.specs.Prelude.{if◌then◌else◌, bytes_eq}
 use Rattle.std.specs.List.{zip}
 use Rattle.std.specs.Option.{option_map}
@@ -9,23 +9,26 @@ use Rattle.cr_small.specs.Tokens.{Token, cut}
 use Rattle.cr_small.specs.Terminals.{is_name, terminal_of}
 use Rattle.cr_small.specs.Tree.{parts}
 use Rattle.cr_small.specs.Resolution.{file_scope}
-use Rattle.cr_small.specs.Renaming.{places_of, denotes_entity, has_text}
-use Rattle.cr_small.specs.KeepsMeaning.{is_place, renamed_token, Key, external, at, key_of_token, key_of, AreLinked, KeepsMeaning, RenamingKeepsMeaning}
+use Rattle.cr_small.specs.Renaming.{has_text}
+use Rattle.cr_small.proofs.Entities.{places_of, denotes_entity}
+use Rattle.cr_small.specs.Keys.{Key, external, at, has_external_linkage, key_of_token, key_of}
+use Rattle.cr_small.specs.SmallForm.{IsSmallForm}
+use Rattle.cr_small.specs.KeepsMeaning.{is_place, renamed_token, AreLinked, KeepsMeaning}
 use Rattle.cr_small.specs.declared.grammar.Part.{Part}
 use Rattle.cr_small.specs.declared.binder.Denotation.{Denotation}
-use Rattle.cr_small.proofs.Flat.{bytes_eq-refl}
+use Rattle.cr_small.proofs.Flat.{both, bytes_eq-refl}
 use Rattle.cr_small.proofs.Cuts.{InOrder}
-use Rattle.cr_small.proofs.Names.{AllSpelled, text_of, texts-from, well-spelled, target-spelled, same-length, derived-length}
+use Rattle.cr_small.proofs.Names.{AllSpelled, text_of, texts-from, well-spelled, same-length, derived-length}
 use Rattle.cr_small.proofs.Pairs.{resolves-length}
 use Rattle.cr_small.proofs.Spacing.{IsWord, layout-cut}
 use Rattle.cr_small.proofs.Edited.{layout-order}
 use Rattle.cr_small.proofs.Moved.{Each, Each-get, HasText, PlacedAs, order-from, layout-texts, tokens-renamed, placed-text}
 use Rattle.cr_small.proofs.Renames.{AreRenamed, AllFresh, walk-follows}
 use Rattle.cr_small.proofs.Links.{AreAlike, PairsAlike, pairs-alike, alike-at}
-use Rattle.cr_small.proofs.Spelling.{NameIf, NamesAt, well-named, target-name, word-of-name, terminal-of-name}
+use Rattle.cr_small.proofs.Spelling.{NameIf, NamesAt, well-named, word-of-name, terminal-of-name}
 
 -- tokens at one offset are one
-distinct : (ts : List Token) (from end : ℕ) (i j : ℕ) (t u : Token) → InOrder from ts end → Each HasText ts → slice_get ts i ≡ Some t → slice_get ts j ≡ Some u → t.offset ≡ u.offset → i ≡ j
+pub distinct : (ts : List Token) (from end : ℕ) (i j : ℕ) (t u : Token) → InOrder from ts end → Each HasText ts → slice_get ts i ≡ Some t → slice_get ts j ≡ Some u → t.offset ≡ u.offset → i ≡ j
 distinct [] from end i j t u order texts h k e = let no : ⊥ = cc in absurd no
 distinct (x ∷ xs) from end zero zero t u order texts h k e = refl
 distinct (x ∷ xs) from end zero (suc j) t u order texts h k e =
@@ -38,18 +41,22 @@ distinct (x ∷ xs) from end (suc i) zero t u order texts h k e =
     absurd (omega (arith, ap (λ z. z.offset) same, texts.0))
 distinct (x ∷ xs) from end (suc i) (suc j) t u order texts h k e = ap suc (distinct xs (x.offset + length x.text) end i j t u order.1 texts.1 h k e)
 
-text_of-get : (ts : List Token) (i : ℕ) (t : Token) → slice_get ts i ≡ Some t → text_of ts i ≡ t.text
+pub text_of-get : (ts : List Token) (i : ℕ) (t : Token) → slice_get ts i ≡ Some t → text_of ts i ≡ t.text
 text_of-get [] i t h = let no : ⊥ = cc in absurd no
 text_of-get (x ∷ xs) zero t h = let same : x ≡ t = cc in ap (λ z. z.text) same
 text_of-get (x ∷ xs) (suc i) t h = text_of-get xs i t h
 
-fresh-each : (new : List ℕ) (ts : List Token) → has_text new ts ≡ false → Each (λ t. bytes_eq t.text new ≡ false) ts
+pub fresh-each : (new : List ℕ) (ts : List Token) → has_text new ts ≡ false → Each (λ t. bytes_eq t.text new ≡ false) ts
 fresh-each new [] h = tt
 fresh-each new (t ∷ ts) h = by (bytes_eq t.text new) refl h (fresh-each new ts)
   where
     by : (b : Bool) → bytes_eq t.text new ≡ b → (b || has_text new ts) ≡ false → (has_text new ts ≡ false → Each (λ t. bytes_eq t.text new ≡ false) ts) → Each (λ t. bytes_eq t.text new ≡ false) (t ∷ ts)
     by true e g rest = let no : ⊥ = cc in absurd no
     by false e g rest = (e, rest g)
+
+-- external linkage is a linkage
+pub linked-of : (d : Denotation) → has_external_linkage d ≡ true → d.linked ≡ true
+linked-of d h = (both d.linked (not d.internal) h).0
 
 module _ (f : ℕ → List ℕ) (entity : ℕ) (new : List ℕ) (old_word : IsWord (f entity)) (new_word : IsWord new) (places : List ℕ) where
   abbrev after : List Token → List Token
@@ -83,21 +90,21 @@ module _ (f : ℕ → List ℕ) (entity : ℕ) (new : List ℕ) (old_word : IsWo
   are-renamed (t ∷ ts) [] (d ∷ ds) n m p = absurd (omega arith)
   are-renamed (t ∷ ts) (q ∷ ps) (d ∷ ds) n m p = (ap (λ b. if b then new else t.text) p.0, refl, are-renamed ts ps ds (omega arith) (omega arith) p.1)
 
-  all-fresh : (ts : List Token) (ps : List Part) → Each (λ t. bytes_eq t.text new ≡ false) ts → AllFresh f entity new (zip ts ps)
+  pub all-fresh : (ts : List Token) (ps : List Part) → Each (λ t. bytes_eq t.text new ≡ false) ts → AllFresh f entity new (zip ts ps)
   all-fresh [] ps e = tt
   all-fresh (t ∷ ts) [] e = tt
   all-fresh (t ∷ ts) (p ∷ ps) e = (e.0, all-fresh ts ps e.1)
 
   -- the key of an entity before and after
-  key-found : (ts : List Token) (d : Denotation) (k : Key) → key_of ts d ≡ Some k → (t : Token) × (slice_get ts d.token ≡ Some t) × (k ≡ key_of_token d.external t)
+  key-found : (ts : List Token) (d : Denotation) (k : Key) → key_of ts d ≡ Some k → (t : Token) × (slice_get ts d.token ≡ Some t) × (k ≡ key_of_token (has_external_linkage d) t)
   key-found ts d k h = by (slice_get ts d.token) refl h
     where
-      by : (o : Option Token) → slice_get ts d.token ≡ o → option_map (key_of_token d.external) o ≡ Some k → (t : Token) × (slice_get ts d.token ≡ Some t) × (k ≡ key_of_token d.external t)
+      by : (o : Option Token) → slice_get ts d.token ≡ o → option_map (key_of_token (has_external_linkage d)) o ≡ Some k → (t : Token) × (slice_get ts d.token ≡ Some t) × (k ≡ key_of_token (has_external_linkage d) t)
       by None e g = let no : ⊥ = cc in absurd no
-      by (Some t) e g = (t, e, let same : key_of_token d.external t ≡ k = cc in sym same)
+      by (Some t) e g = (t, e, let same : key_of_token (has_external_linkage d) t ≡ k = cc in sym same)
 
-  key-after : (ts : List Token) (d : Denotation) (t : Token) → slice_get ts d.token ≡ Some t → key_of (after ts) d ≡ Some (key_of_token d.external (renamed_token places (f entity) new t))
-  key-after ts d t h = ap (option_map (key_of_token d.external)) (slice_get-map (renamed_token places (f entity) new) ts d.token ∙ ap (option_map (renamed_token places (f entity) new)) h)
+  key-after : (ts : List Token) (d : Denotation) (t : Token) → slice_get ts d.token ≡ Some t → key_of (after ts) d ≡ Some (key_of_token (has_external_linkage d) (renamed_token places (f entity) new t))
+  key-after ts d t h = ap (option_map (key_of_token (has_external_linkage d))) (slice_get-map (renamed_token places (f entity) new) ts d.token ∙ ap (option_map (renamed_token places (f entity) new)) h)
 
   key-before : (ts : List Token) (d : Denotation) (u : Token) → slice_get (after ts) d.token ≡ Some u → (t : Token) × (slice_get ts d.token ≡ Some t) × (renamed_token places (f entity) new t ≡ u)
   key-before ts d u h = by (slice_get ts d.token) refl (sym (slice_get-map (renamed_token places (f entity) new) ts d.token) ∙ h)
@@ -107,11 +114,11 @@ module _ (f : ℕ → List ℕ) (entity : ℕ) (new : List ℕ) (old_word : IsWo
       by (Some t) e g = (t, e, cc)
 
   -- entities of one key have one key afterwards
-  keys-follow : (ts : List Token) (d e : Denotation) (t u : Token) (x y : Bool) → d.external ≡ x → e.external ≡ y → AreAlike f entity new d e → (f d.token ≡ t.text) → (f e.token ≡ u.text)
+  keys-follow : (ts : List Token) (d e : Denotation) (t u : Token) (x y : Bool) → has_external_linkage d ≡ x → has_external_linkage e ≡ y → AreAlike f entity new d e → (f d.token ≡ t.text) → (f e.token ≡ u.text)
       → slice_get ts d.token ≡ Some t → slice_get ts e.token ≡ Some u → key_of_token x t ≡ key_of_token y u → key_of_token x (renamed_token places (f entity) new t) ≡ key_of_token y (renamed_token places (f entity) new u)
   keys-follow ts d e t u true true p q alike m n h k same =
       let names : t.text ≡ u.text = cc in
-      let one = alike p q (m ∙ names ∙ sym n) in
+      let one = alike (linked-of d p) (linked-of e q) (m ∙ names ∙ sym n) in
       let v : Some t ≡ Some u = sym h ∙ ap (slice_get ts) one ∙ k in
       let w : t ≡ u = cc in
       ap (λ z. key_of_token true (renamed_token places (f entity) new z)) w
@@ -152,8 +159,8 @@ module _ (f : ℕ → List ℕ) (entity : ℕ) (new : List ℕ) (old_word : IsWo
       let t = key-found ts d k one in
       let u = key-found ts e k other in
       let alike = alike-at f entity new ds i j d e pairs at_i at_j in
-      let same = keys-follow ts d e t.0 u.0 d.external e.external refl refl alike (ap (λ g. g d.token) is ∙ text_of-get ts d.token t.0 t.1) (ap (λ g. g e.token) is ∙ text_of-get ts e.token u.0 u.1) t.1 u.1 (sym t.2 ∙ u.2) in
-      (d, e, at_i, at_j, key_of_token d.external (renamed_token places (f entity) new t.0), key-after ts d t.0 t.1, key-after ts e u.0 u.1 ∙ ap (λ z. Some z) (sym same))
+      let same = keys-follow ts d e t.0 u.0 (has_external_linkage d) (has_external_linkage e) refl refl alike (ap (λ g. g d.token) is ∙ text_of-get ts d.token t.0 t.1) (ap (λ g. g e.token) is ∙ text_of-get ts e.token u.0 u.1) t.1 u.1 (sym t.2 ∙ u.2) in
+      (d, e, at_i, at_j, key_of_token (has_external_linkage d) (renamed_token places (f entity) new t.0), key-after ts d t.0 t.1, key-after ts e u.0 u.1 ∙ ap (λ z. Some z) (sym same))
 
   links-back : (ts : List Token) (ds : List (Option Denotation)) (i j end : ℕ) → InOrder 0 (after ts) end → Each HasText (after ts) → Each (λ t. is_place places t.offset ≡ true → t.text ≡ f entity) ts → Each (λ t. bytes_eq t.text new ≡ false) ts
       → AreLinked (after ts) ds i j → AreLinked ts ds i j
@@ -162,46 +169,47 @@ module _ (f : ℕ → List ℕ) (entity : ℕ) (new : List ℕ) (old_word : IsWo
       let w = key-found (after ts) e k other in
       let t = key-before ts d v.0 v.1 in
       let u = key-before ts e w.0 w.1 in
-      let now : key_of_token d.external (renamed_token places (f entity) new t.0) ≡ key_of_token e.external (renamed_token places (f entity) new u.0) =
-      ap (key_of_token d.external) t.2 ∙ sym v.2 ∙ w.2 ∙ ap (key_of_token e.external) (sym u.2) in
-      let same = keys-back ts end d e t.0 u.0 d.external e.external order texts
+      let now : key_of_token (has_external_linkage d) (renamed_token places (f entity) new t.0) ≡ key_of_token (has_external_linkage e) (renamed_token places (f entity) new u.0) =
+      ap (key_of_token (has_external_linkage d)) t.2 ∙ sym v.2 ∙ w.2 ∙ ap (key_of_token (has_external_linkage e)) (sym u.2) in
+      let same = keys-back ts end d e t.0 u.0 (has_external_linkage d) (has_external_linkage e) order texts
       (Each-get (λ t. is_place places t.offset ≡ true → t.text ≡ f entity) ts d.token t.0 spelled t.1) (Each-get (λ t. is_place places t.offset ≡ true → t.text ≡ f entity) ts e.token u.0 spelled u.1)
       (Each-get (λ t. bytes_eq t.text new ≡ false) ts d.token t.0 fresh t.1) (Each-get (λ t. bytes_eq t.text new ≡ false) ts e.token u.0 fresh u.1) t.1 u.1 now in
-      (d, e, at_i, at_j, key_of_token d.external t.0, ap (option_map (key_of_token d.external)) t.1, ap (option_map (key_of_token e.external)) u.1 ∙ ap (λ z. Some z) (sym same))
+      (d, e, at_i, at_j, key_of_token (has_external_linkage d) t.0, ap (option_map (key_of_token (has_external_linkage d))) t.1, ap (option_map (key_of_token (has_external_linkage e))) u.1 ∙ ap (λ z. Some z) (sym same))
 
-pub keeping : RenamingKeepsMeaning
-keeping bytes new denotes offset target small here new_name fresh_name =
+-- the places of an entity can be renamed
+pub keeping_entity : (bytes new : List ℕ) (denotes : List (Option Denotation)) (entity : ℕ) → IsSmallForm (cut 0 bytes) denotes → is_name (text_of (cut 0 bytes) entity) ≡ true → is_name new ≡ true → has_text new (cut 0 bytes) ≡ false
+    → (kept : KeepsMeaning (cut 0 bytes) (cut 0 (substituted (places_of entity (zip (cut 0 bytes) denotes)) (length (text_of (cut 0 bytes) entity)) new bytes)) (places_of entity (zip (cut 0 bytes) denotes)) (text_of (cut 0 bytes) entity) new) × (kept.denotes ≡ denotes)
+keeping_entity bytes new denotes entity small old_name new_name fresh_name =
     let ts = cut 0 bytes in
     let f = text_of ts in
     let tree = small.1.0 in
     let well = small.1.1 in
     let all = well-spelled ts tree denotes well in
-    let named = target-spelled f (zip ts denotes) offset target all here in
     let names = well-named ts tree denotes well in
-    let old_word : IsWord (f target.entity) = subst IsWord (sym named) (word-of-name target.name (target-name ts denotes offset target names here)) in
+    let old_word : IsWord (f entity) = word-of-name (f entity) old_name in
     let new_word = word-of-name new new_name in
     let n = resolves-length ts denotes small in
-    let places = places_of target.entity (zip ts denotes) in
-    let cuts = tokens-renamed f target.entity new old_word new_word bytes denotes n all in
-    let placed = placed-text f target.entity new old_word new_word bytes denotes n all in
+    let places = places_of entity (zip ts denotes) in
+    let cuts = tokens-renamed f entity new old_word new_word bytes denotes n all in
+    let placed = placed-text f entity new old_word new_word bytes denotes n all in
     let fresh = fresh-each new ts fresh_name in
-    let spelled = spelled-each f target.entity new old_word new_word places ts denotes n placed all in
+    let spelled = spelled-each f entity new old_word new_word places ts denotes n placed all in
     let m = derived-length ts tree well.0 in
     let texts = texts-from ts (parts tree) f 0 (λ k. ap f (let e : 0 + k ≡ k = omega arith in e)) in
-    let walk = walk-follows f target.entity new (zip ts (parts tree)) 0 file_scope denotes (zip (after f target.entity new old_word new_word places ts) (parts tree)) tt (all-fresh f target.entity new old_word new_word places ts (parts tree) fresh) texts
-    (are-renamed f target.entity new old_word new_word places ts (parts tree) denotes n m placed) well.1 in
-    let pairs = pairs-alike f target.entity new (zip ts (parts tree)) 0 file_scope denotes tt (all-fresh f target.entity new old_word new_word places ts (parts tree) fresh) texts well.1 in
-    let edited = substituted places (length (f target.entity)) new bytes in
+    let walk = walk-follows f entity new (zip ts (parts tree)) 0 file_scope denotes (zip (after f entity new old_word new_word places ts) (parts tree)) tt (all-fresh f entity new old_word new_word places ts (parts tree) fresh) texts
+    (are-renamed f entity new old_word new_word places ts (parts tree) denotes n m placed) well.1 in
+    let pairs = pairs-alike f entity new (zip ts (parts tree)) 0 file_scope denotes tt (all-fresh f entity new old_word new_word places ts (parts tree) fresh) texts well.1 in
+    let edited = substituted places (length (f entity)) new bytes in
     let laid = layout-cut edited 0 in
-    let order : InOrder 0 (after f target.entity new old_word new_word places ts) (0 + length edited) = subst (λ l. InOrder 0 l (0 + length edited)) cuts (layout-order (cut 0 edited) 0 edited laid) in
-    let has : Each HasText (after f target.entity new old_word new_word places ts) = subst (Each HasText) cuts (layout-texts (cut 0 edited) 0 edited laid) in
-    let kept : KeepsMeaning ts (after f target.entity new old_word new_word places ts) places (f target.entity) new = record {
+    let order : InOrder 0 (after f entity new old_word new_word places ts) (0 + length edited) = subst (λ l. InOrder 0 l (0 + length edited)) cuts (layout-order (cut 0 edited) 0 edited laid) in
+    let has : Each HasText (after f entity new old_word new_word places ts) = subst (Each HasText) cuts (layout-texts (cut 0 edited) 0 edited laid) in
+    let kept : KeepsMeaning ts (after f entity new old_word new_word places ts) places (f entity) new = record {
       tokens = refl;
-      spelled = λ i t h p. Each-get (λ t. is_place places t.offset ≡ true → t.text ≡ f target.entity) ts i t spelled h p;
+      spelled = λ i t h p. Each-get (λ t. is_place places t.offset ≡ true → t.text ≡ f entity) ts i t spelled h p;
       tree = tree;
       denotes = denotes;
       was_well_formed = well;
-      is_well_formed = (terminals-kept f target.entity new old_word new_word places ts denotes n placed names new_name ∙ well.0, walk);
-      links = λ i j. (links-follow f target.entity new old_word new_word places ts denotes i j refl pairs, links-back f target.entity new old_word new_word places ts denotes i j (0 + length edited) order has spelled fresh);
+      is_well_formed = (terminals-kept f entity new old_word new_word places ts denotes n placed names new_name ∙ well.0, walk);
+      links = λ i j. (links-follow f entity new old_word new_word places ts denotes i j refl pairs, links-back f entity new old_word new_word places ts denotes i j (0 + length edited) order has spelled fresh);
     } in
-    subst (λ old. KeepsMeaning ts (cut 0 (substituted places (length old) new bytes)) places old new) named (subst (λ l. KeepsMeaning ts l places (f target.entity) new) (sym cuts) kept)
+    subst (λ l. (k : KeepsMeaning ts l places (f entity) new) × (k.denotes ≡ denotes)) (sym cuts) (kept, refl)

@@ -1,6 +1,7 @@
 pub mod Braces
 pub mod Cuts
 pub mod Edited
+pub mod Entities
 pub mod Flat
 pub mod Keeping
 pub mod Links
@@ -14,3 +15,6 @@ pub mod Renames
 pub mod Spacing
 pub mod Spelling
 pub mod Walk
+pub mod Flags
+pub mod KeyKeeping
+pub mod KeyLaws

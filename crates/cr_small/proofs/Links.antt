@@ -1,10 +1,11 @@
--- Entities with external linkage are told apart by their names.
+-- Entities with linkage are told apart by their names.
 use Rattle.std.proofs.Common.{◌≡◌, ℕ, ◌+◌, Bool, true, false, List, [], ◌∷◌, ◌++◌, Option, Some, None, refl, sym, ap, ◌∙◌, subst, zero, suc, slice_get}
 use Rattle.std.specs.Prelude.{if◌then◌else◌}
 use Rattle.std.specs.Option.{option_map, option_or, option_and_then, is_some}
 use Rattle.cr_small.specs.Tokens.{Token}
-use Rattle.cr_small.specs.Declarations.{Entry, lookup, is_external, first_external, token_or, entity_of, is_redeclared}
-use Rattle.cr_small.specs.Resolution.{Bindings, Bound, bound, resolved, declared, denotation, entry_at, mentioned}
+use Rattle.cr_small.specs.Declarations.{Entry, lookup, is_linked, first_linked, token_or, entity_of, is_redeclared}
+use Rattle.cr_small.specs.Resolution.{Bindings, Bound, is_file_scope, bound, resolved, declared, denotation, entry_at, mentioned}
+use Rattle.cr_small.specs.declared.grammar.Storage.{Storage}
 use Rattle.cr_small.specs.declared.grammar.Part.{Part}
 use Rattle.cr_small.specs.declared.grammar.Part.TheVariants as part
 use Rattle.cr_small.specs.declared.binder.Denotation.{Denotation}
@@ -13,40 +14,40 @@ use Rattle.cr_small.proofs.Names.{All, All-lookup, IsNamed, entity-named, TextsF
 use Rattle.cr_small.proofs.Renames.{All-map, IsFresh, IsKnown, AllFresh, Follows, bound-follows, known-push, known-self}
 
 module _ (f : ℕ → List ℕ) (entity : ℕ) (new : List ℕ) where
-  -- the entity's name has it as its first external declaration
+  -- the entity's name has it as its first declaration with linkage
   abbrev pub IsSettled : List Entry → Denotation → Type 0
-  IsSettled es d = d.external ≡ true → (w : Entry) × (first_external (f d.token) es ≡ Some w) × (w.token ≡ d.token)
+  IsSettled es d = d.linked ≡ true → (w : Entry) × (first_linked (f d.token) es ≡ Some w) × (w.token ≡ d.token)
 
   abbrev SettledIf : List Entry → Option Denotation → Type 0
   SettledIf es None = Unit {0}
   SettledIf es (Some d) = IsSettled es d
 
-  first-stays : (es : List Entry) (e w : Entry) (name : List ℕ) → first_external name es ≡ Some w → first_external name (es ++ e ∷ []) ≡ Some w
-  first-stays es e w name h = find-push (is_external name) es e ∙ ap (λ o. option_or o (if is_external name e then Some e else None)) h
+  first-stays : (es : List Entry) (e w : Entry) (name : List ℕ) → first_linked name es ≡ Some w → first_linked name (es ++ e ∷ []) ≡ Some w
+  first-stays es e w name h = find-push (is_linked name) es e ∙ ap (λ o. option_or o (if is_linked name e then Some e else None)) h
 
   settled-push : (es : List Entry) (e : Entry) (d : Denotation) → IsSettled es d → IsSettled (es ++ e ∷ []) d
   settled-push es e d h x = let k = h x in (k.0, first-stays es e k.0 (f d.token) k.1, k.2)
 
   denotation-settled : (es : List Entry) (e : Entry) → All (IsKnown f entity new es) es → IsKnown f entity new es e → IsSettled es (denotation es e)
-  denotation-settled es e all k x = by (first_external e.name es) refl (k.2 x)
+  denotation-settled es e all k x = by (first_linked e.name es) refl (k.2 x)
     where
-      by : (o : Option Entry) → first_external e.name es ≡ o → is_some (first_external e.name es) ≡ true → (w : Entry) × (first_external (f (entity_of es e)) es ≡ Some w) × (w.token ≡ entity_of es e)
+      by : (o : Option Entry) → first_linked e.name es ≡ o → is_some (first_linked e.name es) ≡ true → (w : Entry) × (first_linked (f (entity_of es e)) es ≡ Some w) × (w.token ≡ entity_of es e)
       by None h g = let no : false ≡ true = ap is_some (sym h) ∙ g in let bad : ⊥ = cc in absurd bad
       by (Some w) h g =
           let named = entity-named f es e (All-map (IsKnown f entity new es) (IsNamed f) es (λ y l. l.0) all) k.0 in
-          (w, ap (λ n. first_external n es) named ∙ h, sym (ap (λ b. if b then token_or e.token (first_external e.name es) else e.token) x ∙ ap (token_or e.token) h))
+          (w, ap (λ n. first_linked n es) named ∙ h, sym (ap (λ b. if b then token_or e.token (first_linked e.name es) else e.token) x ∙ ap (token_or e.token) h))
 
   -- what one token leaves: what was settled stays so, and what it denotes is settled
   abbrev Settles : Bindings → Option Bound → Type 0
   Settles b None = Unit {0}
   Settles b (Some e) = ((d : Denotation) → IsSettled b.entries d → IsSettled e.after.entries d) × SettledIf e.after.entries e.denotes
 
-  declared-settles : (b : Bindings) (n : ℕ) (text : List ℕ) (function : Bool) → All (IsKnown f entity new b.entries) b.entries → IsFresh f entity new text → f n ≡ text → Settles b (declared b (entry_at b function text n))
-  declared-settles b n text function all fresh own = by (is_redeclared b.entries (entry_at b function text n))
+  declared-settles : (b : Bindings) (n : ℕ) (text : List ℕ) (function : Bool) (word : Option Storage) → All (IsKnown f entity new b.entries) b.entries → IsFresh f entity new text → f n ≡ text → Settles b (declared b (entry_at b function word text n))
+  declared-settles b n text function word all fresh own = by (is_redeclared b.entries (entry_at b function word text n))
     where
-      by : (x : Bool) → Settles b (if x then None else Some (record { after = record { entries = b.entries ++ entry_at b function text n ∷ []; path = b.path; next = b.next }; denotes = Some (denotation (b.entries ++ entry_at b function text n ∷ []) (entry_at b function text n)) }))
+      by : (x : Bool) → Settles b (if x then None else Some (record { after = record { entries = b.entries ++ entry_at b function word text n ∷ []; path = b.path; next = b.next }; denotes = Some (denotation (b.entries ++ entry_at b function word text n ∷ []) (entry_at b function word text n)) }))
       by true = tt
-      by false = (λ d h. settled-push b.entries (entry_at b function text n) d h, denotation-settled (b.entries ++ entry_at b function text n ∷ []) (entry_at b function text n) (known-push f entity new b.entries (entry_at b function text n) all own fresh) (known-self f entity new b.entries (entry_at b function text n) own fresh))
+      by false = (λ d h. settled-push b.entries (entry_at b function word text n) d h, denotation-settled (b.entries ++ entry_at b function word text n ∷ []) (entry_at b function word text n) (known-push f entity new b.entries (entry_at b function word text n) all own fresh (λ p. ap is_file_scope p)) (known-self f entity new b.entries (entry_at b function word text n) own fresh (λ p. ap is_file_scope p)))
 
   mentioned-settles : (b : Bindings) (text : List ℕ) (o : Option Entry) → All (IsKnown f entity new b.entries) b.entries → lookup b.entries text b.path ≡ o → Settles b (mentioned b o)
   mentioned-settles b text None all h = tt
@@ -56,13 +57,13 @@ module _ (f : ℕ → List ℕ) (entity : ℕ) (new : List ℕ) where
   bound-settles b n text part.Plain all fresh own = (λ d k. k, tt)
   bound-settles b n text part.Opens all fresh own = (λ d k. k, tt)
   bound-settles b n text part.Closes all fresh own = (λ d k. k, tt)
-  bound-settles b n text part.DeclaresObject all fresh own = declared-settles b n text false all fresh own
-  bound-settles b n text part.DeclaresFunction all fresh own = declared-settles b n text true all fresh own
+  bound-settles b n text (part.DeclaresObject word) all fresh own = declared-settles b n text false word all fresh own
+  bound-settles b n text (part.DeclaresFunction word) all fresh own = declared-settles b n text true word all fresh own
   bound-settles b n text part.Mentions all fresh own = mentioned-settles b text (lookup b.entries text b.path) all refl
 
-  -- external entities of one name are one
+  -- entities with linkage of one name are one
   abbrev pub AreAlike : Denotation → Denotation → Type 0
-  AreAlike d e = d.external ≡ true → e.external ≡ true → f d.token ≡ f e.token → d.token ≡ e.token
+  AreAlike d e = d.linked ≡ true → e.linked ≡ true → f d.token ≡ f e.token → d.token ≡ e.token
 
   abbrev AlikeIf : Denotation → Option Denotation → Type 0
   AlikeIf d None = Unit {0}
@@ -85,7 +86,7 @@ module _ (f : ℕ → List ℕ) (entity : ℕ) (new : List ℕ) where
   settled-alike es d (Some e) h k = λ x y same.
       let a = h x in
       let b = k y in
-      let w : Some a.0 ≡ Some b.0 = sym a.1 ∙ ap (λ n. first_external n es) same ∙ b.1 in
+      let w : Some a.0 ≡ Some b.0 = sym a.1 ∙ ap (λ n. first_linked n es) same ∙ b.1 in
       let v : a.0 ≡ b.0 = cc in
       sym a.2 ∙ ap (λ z. z.token) v ∙ b.2
 

@@ -5,7 +5,7 @@ use Rattle.std.specs.List.{zip}
 use Rattle.cr_base.specs.Substitution.{Rise, shifted, substituted}
 use Rattle.cr_base.proofs.Shifts.{shifted-before, shifted-behind, shifted-upto}
 use Rattle.cr_small.specs.Tokens.{Token, cut}
-use Rattle.cr_small.specs.Renaming.{denotes_entity, places_of}
+use Rattle.cr_small.proofs.Entities.{denotes_entity, places_of}
 use Rattle.cr_small.specs.KeepsMeaning.{is_place, renamed_token}
 use Rattle.cr_small.specs.declared.binder.Denotation.{Denotation}
 use Rattle.cr_small.proofs.Flat.{bool_cases}

@@ -1,22 +1,22 @@
 -- Tokens that denote one entity are spelled alike, and stand one behind another.
 use Rattle.std.proofs.lemmas.List.{length-map}
-use Rattle.std.proofs.Common.{eqb-true, eq-eqb, ◌≡◌, ℕ, ◌+◌, ◌<◌, ◌≤◌, Bool, true, false, List, [], ◌∷◌, ◌++◌, length, map, Option, Some, None, refl, sym, ap, ◌∙◌, subst, arith, cond, zero, suc}
+use Rattle.std.proofs.Common.{eqb-true, eq-eqb, ◌≡◌, ℕ, ◌+◌, ◌≤◌, Bool, true, false, List, [], ◌∷◌, ◌++◌, length, map, Option, Some, None, refl, sym, ap, ◌∙◌, subst, arith, cond, zero, suc}
 use Rattle.std.specs.Prelude.{if◌then◌else◌, bytes_eq, ◌==◌}
 use Rattle.std.specs.List.{find, zip, filter}
 use Rattle.std.specs.Option.{option_map, option_or, option_and_then}
 use Rattle.cr_base.specs.Substitution.{Rise}
-use Rattle.cr_small.specs.Tokens.{Token, cut}
+use Rattle.cr_small.specs.Tokens.{Token}
 use Rattle.cr_small.specs.Terminals.{terminal_of}
 use Rattle.cr_small.specs.Tree.{External, leaves, parts, Derives}
-use Rattle.cr_small.specs.Declarations.{Entry, is_in, last_in, lookup, is_external, first_external, token_or, entity_of, is_redeclared}
+use Rattle.cr_small.specs.Declarations.{Entry, is_in, last_in, lookup, is_linked, first_linked, token_or, entity_of, is_redeclared}
 use Rattle.cr_small.specs.Resolution.{Bindings, Bound, bound, resolved, file_scope, declared, mentioned, denotation, entry_at}
 use Rattle.cr_small.specs.SmallForm.{IsWellFormed}
-use Rattle.cr_small.specs.Renaming.{covers, Target, target_of, target_at, denotes_entity, places_of, PlacesRise, HasPlace}
+use Rattle.cr_small.proofs.Entities.{denotes_entity, places_of}
 use Rattle.cr_small.specs.declared.grammar.Part.{Part}
 use Rattle.cr_small.specs.declared.grammar.Part.TheVariants as part
 use Rattle.cr_small.specs.declared.binder.Denotation.{Denotation}
 use Rattle.cr_small.proofs.Flat.{both, bytes_eq-true, find-Some}
-use Rattle.cr_small.proofs.Cuts.{InOrder, cut-in_order, rise_down}
+use Rattle.cr_small.proofs.Cuts.{InOrder, rise_down}
 
 -- a fact of each entry
 abbrev pub All : (Entry → Type 0) → List Entry → Type 0
@@ -79,14 +79,14 @@ module _ (text_at : ℕ → List ℕ) where
   Spelled (x ∷ xs) (d ∷ ds) = SpelledOne x.0.text d × Spelled xs ds
 
   pub entity-named : (es : List Entry) (e : Entry) → All IsNamed es → IsNamed e → text_at (entity_of es e) ≡ e.name
-  entity-named es e all own = by e.external (first_external e.name es) refl
+  entity-named es e all own = by e.linked (first_linked e.name es) refl
     where
-      by : (x : Bool) (o : Option Entry) → first_external e.name es ≡ o → text_at (if x then token_or e.token o else e.token) ≡ e.name
+      by : (x : Bool) (o : Option Entry) → first_linked e.name es ≡ o → text_at (if x then token_or e.token o else e.token) ≡ e.name
       by false o f = own
       by true None f = own
       by true (Some y) f =
-          let t = both y.external (bytes_eq y.name e.name) (find-Some (is_external e.name) es y f) in
-          All-find IsNamed (is_external e.name) es y all f ∙ bytes_eq-true y.name e.name t.1
+          let t = both y.linked (bytes_eq y.name e.name) (find-Some (is_linked e.name) es y f) in
+          All-find IsNamed (is_linked e.name) es y all f ∙ bytes_eq-true y.name e.name t.1
 
   -- what one token leaves is named, and what it denotes is spelled so
   abbrev BoundNamed : List ℕ → Option Bound → Type 0
@@ -113,8 +113,8 @@ module _ (text_at : ℕ → List ℕ) where
   bound-named b n name part.Plain all own = (all, tt)
   bound-named b n name part.Opens all own = (all, tt)
   bound-named b n name part.Closes all own = (all, tt)
-  bound-named b n name part.DeclaresObject all own = declared-named b (entry_at b false name n) all own
-  bound-named b n name part.DeclaresFunction all own = declared-named b (entry_at b true name n) all own
+  bound-named b n name (part.DeclaresObject word) all own = declared-named b (entry_at b false word name n) all own
+  bound-named b n name (part.DeclaresFunction word) all own = declared-named b (entry_at b true word name n) all own
   bound-named b n name part.Mentions all own = mentioned-named b name (lookup b.entries name b.path) refl all
 
   -- each token that denotes an entity is spelled as the entity's first declaring token
@@ -185,20 +185,7 @@ well-spelled ts tree ds w =
 eq-true : (n : ℕ) → (n == n) ≡ true
 eq-true n = eq-eqb n n refl
 
--- what stands at an offset is one of the tokens
-pub target-spelled : (f : ℕ → List ℕ) (xs : List (Token × Option Denotation)) (offset : ℕ) (target : Target) → AllSpelled f xs → target_at offset xs ≡ Some target → f target.entity ≡ target.name
-target-spelled f [] offset target all h = let no : ⊥ = cc in absurd no
-target-spelled f (x ∷ xs) offset target all h = by (covers offset x.0) h (target-spelled f xs offset target all.1)
-  where
-    at : (d : Option Denotation) → SpelledOne f x.0.text d → target_of x.0 d ≡ Some target → f target.entity ≡ target.name
-    at None own g = let no : ⊥ = cc in absurd no
-    at (Some d) own g = let same : (record { name = x.0.text; entity = d.token }) ≡ target = cc in subst (λ t. f t.entity ≡ t.name) same own
-
-    by : (b : Bool) → (if b then target_of x.0 x.1 else target_at offset xs) ≡ Some target → (target_at offset xs ≡ Some target → f target.entity ≡ target.name) → f target.entity ≡ target.name
-    by true g rest = at x.1 all.0 g
-    by false g rest = rest g
-
-InOrder-end : (ts : List Token) (from end : ℕ) → InOrder from ts end → from ≤ end
+pub InOrder-end : (ts : List Token) (from end : ℕ) → InOrder from ts end → from ≤ end
 InOrder-end [] from end h = h
 InOrder-end (t ∷ ts) from end h = let k = InOrder-end ts (t.offset + length t.text) end h.1 in omega (arith, h.0)
 
@@ -220,30 +207,3 @@ rise-places f entity (t ∷ ts) (d ∷ ds) from end h all =
         → Rise from (map (λ one. one.0.offset) (if b then (t, d) ∷ filter (λ one. denotes_entity entity one.1) (zip ts ds) else filter (λ one. denotes_entity entity one.1) (zip ts ds))) (length (f entity)) end
     by true e rest = (h.0, subst (λ n. Rise (t.offset + n) (places_of entity (zip ts ds)) (length (f entity)) end) (ap length (same-length f entity t d all.0 e)) rest)
     by false e rest = rise_down (places_of entity (zip ts ds)) (t.offset + length t.text) from (length (f entity)) end (omega (arith, h.0)) rest
-
-pub places_rise_proof : PlacesRise
-places_rise_proof bytes denotes offset target small at =
-    let all = well-spelled (cut 0 bytes) small.1.0 denotes small.1.1 in
-    let named = target-spelled (text_of (cut 0 bytes)) (zip (cut 0 bytes) denotes) offset target all at in
-    let order : InOrder 0 (cut 0 bytes) (length bytes) = subst (λ n. InOrder 0 (cut 0 bytes) n) (let e : 0 + length bytes ≡ length bytes = omega arith in e) (cut-in_order bytes 0) in
-    subst (λ name. Rise 0 (places_of target.entity (zip (cut 0 bytes) denotes)) (length name) (length bytes)) named
-    (rise-places (text_of (cut 0 bytes)) target.entity (cut 0 bytes) denotes 0 (length bytes) order all)
-
-pub has_place_proof : HasPlace
-has_place_proof [] offset target h = let no : ⊥ = cc in absurd no
-has_place_proof (x ∷ xs) offset target h = by (covers offset x.0) h (has_place_proof xs offset target)
-  where
-    longer : (b : Bool) → 0 < length (places_of target.entity xs) → 0 < length (map (λ one. one.0.offset) (if b then x ∷ filter (λ one. denotes_entity target.entity one.1) xs else filter (λ one. denotes_entity target.entity one.1) xs))
-    longer true k = omega arith
-    longer false k = k
-
-    at : (d : Option Denotation) → x.1 ≡ d → target_of x.0 d ≡ Some target → 0 < length (places_of target.entity (x ∷ xs))
-    at None e g = let no : ⊥ = cc in absurd no
-    at (Some d) e g =
-        let same : d.token ≡ target.entity = let s : (record { name = x.0.text; entity = d.token }) ≡ target = cc in ap (λ t. t.entity) s in
-        let here : denotes_entity target.entity x.1 ≡ true = ap (denotes_entity target.entity) e ∙ eq-eqb d.token target.entity same in
-        rw here (omega arith)
-
-    by : (b : Bool) → (if b then target_of x.0 x.1 else target_at offset xs) ≡ Some target → (target_at offset xs ≡ Some target → 0 < length (places_of target.entity xs)) → 0 < length (places_of target.entity (x ∷ xs))
-    by true g rest = at x.1 refl g
-    by false g rest = longer (denotes_entity target.entity x.1) (rest g)

@@ -8,7 +8,8 @@ use Rattle.cr_small.specs.Tokens.{Token}
 use Rattle.cr_small.specs.Tree.{parts}
 use Rattle.cr_small.specs.Seen.{token_of}
 use Rattle.cr_small.specs.SmallForm.{Resolves}
-use Rattle.cr_small.specs.Renaming.{target_at, target_of, covers, places_of, denotes_entity}
+use Rattle.cr_small.specs.Keys.{Key}
+use Rattle.cr_small.specs.Renaming.{target_among, target_of, covers, places_among, denotes_key}
 use Rattle.cr_small.specs.declared.token.Token as code
 use Rattle.cr_small.specs.declared.binder.Denotation.{Denotation}
 use Rattle.cr_small.proofs.Parts.{no_token}
@@ -20,19 +21,20 @@ module _ (tokens : List code.Token) (denotes : List (Option Denotation)) (i : �
       ap (λ ts. zip (map token_of ts) (drop i denotes)) (drop_more tokens i no_token h)
       ∙ ap (zip (map token_of (get_or tokens i no_token ∷ drop (i + 1) tokens))) (drop_more denotes i None k)
 
-  pub target_here : (offset : ℕ) (b : Bool) → covers offset (token_of (get_or tokens i no_token)) ≡ b
-      → target_at offset (zip (map token_of (drop i tokens)) (drop i denotes)) ≡ (if b then target_of (token_of (get_or tokens i no_token)) (get_or denotes i None) else target_at offset (zip (map token_of (drop (i + 1) tokens)) (drop (i + 1) denotes)))
-  target_here offset b e =
-      ap (target_at offset) pair_at
-      ∙ ap (λ b. if b then target_of (token_of (get_or tokens i no_token)) (get_or denotes i None) else target_at offset (zip (map token_of (drop (i + 1) tokens)) (drop (i + 1) denotes))) e
+  module _ (all : List Token) where
+    pub target_here : (offset : ℕ) (b : Bool) → covers offset (token_of (get_or tokens i no_token)) ≡ b
+        → target_among all offset (zip (map token_of (drop i tokens)) (drop i denotes)) ≡ (if b then target_of all (token_of (get_or tokens i no_token)) (get_or denotes i None) else target_among all offset (zip (map token_of (drop (i + 1) tokens)) (drop (i + 1) denotes)))
+    target_here offset b e =
+        ap (target_among all offset) pair_at
+        ∙ ap (λ b. if b then target_of all (token_of (get_or tokens i no_token)) (get_or denotes i None) else target_among all offset (zip (map token_of (drop (i + 1) tokens)) (drop (i + 1) denotes))) e
 
-  pub places_yes : (entity : ℕ) → denotes_entity entity (get_or denotes i None) ≡ true
-      → places_of entity (zip (map token_of (drop i tokens)) (drop i denotes)) ≡ (get_or tokens i no_token).offset ∷ places_of entity (zip (map token_of (drop (i + 1) tokens)) (drop (i + 1) denotes))
-  places_yes entity e = ap (places_of entity) pair_at ∙ rw e refl
+    pub places_yes : (key : Key) → denotes_key all key (get_or denotes i None) ≡ true
+        → places_among all key (zip (map token_of (drop i tokens)) (drop i denotes)) ≡ (get_or tokens i no_token).offset ∷ places_among all key (zip (map token_of (drop (i + 1) tokens)) (drop (i + 1) denotes))
+    places_yes key e = ap (places_among all key) pair_at ∙ rw e refl
 
-  pub places_no : (entity : ℕ) → denotes_entity entity (get_or denotes i None) ≡ false
-      → places_of entity (zip (map token_of (drop i tokens)) (drop i denotes)) ≡ places_of entity (zip (map token_of (drop (i + 1) tokens)) (drop (i + 1) denotes))
-  places_no entity e = ap (places_of entity) pair_at ∙ rw e refl
+    pub places_no : (key : Key) → denotes_key all key (get_or denotes i None) ≡ false
+        → places_among all key (zip (map token_of (drop i tokens)) (drop i denotes)) ≡ places_among all key (zip (map token_of (drop (i + 1) tokens)) (drop (i + 1) denotes))
+    places_no key e = ap (places_among all key) pair_at ∙ rw e refl
 
 pub one_place_more : (done grown all rest : List ℕ) (place : ℕ) (here : List ℕ) → done ++ here ≡ all → here ≡ place ∷ rest → grown ≡ done ++ place ∷ [] → grown ++ rest ≡ all
 one_place_more done grown all rest place here h e g = ap (λ l. l ++ rest) g ∙ append_assoc done (place ∷ []) rest ∙ ap (λ l. done ++ l) (sym e) ∙ h

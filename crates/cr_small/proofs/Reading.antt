@@ -2,10 +2,12 @@
 use Rattle.std.proofs.Common.{◌≡◌, ◌⊎◌, inl, inr, Bool, true, false, List, [], ◌∷◌, ◌++◌, map, Option, Some, None, refl, sym, ap, ◌∙◌, subst, append_assoc}
 use Rattle.std.specs.List.{flat_map}
 use Rattle.std.specs.Option.{option_map, option_and_then}
-use Rattle.cr_small.specs.Tree.{Item, number, mention, call, Sum, Statement, local, returns, evaluates, External, object, prototype, definition, Leaf, plain, name_that, item_leaves, more_leaves, sum_leaves, initialiser_leaves, object_leaves, statement_leaves, function_leaves, opening, closing, external_leaves, leaves}
+use Rattle.cr_small.specs.Tree.{Item, number, mention, call, Sum, Statement, local, returns, evaluates, External, Declaration, object, prototype, definition, Leaf, plain, name_that, item_leaves, more_leaves, sum_leaves, initialiser_leaves, object_leaves, statement_leaves, function_leaves, opening, closing, declaration_leaves, word_leaves, external_leaves, leaves}
 use Rattle.cr_small.specs.Machine.{step, start, item, declarator, run, ending, opens_next}
 use Rattle.cr_small.specs.declared.terminal.Terminal.{Terminal}
 use Rattle.cr_small.specs.declared.terminal.Terminal.TheVariants as terminal
+use Rattle.cr_small.specs.declared.grammar.Storage.{Storage}
+use Rattle.cr_small.specs.declared.grammar.Storage.TheVariants as storage
 use Rattle.cr_small.specs.declared.grammar.Part.TheVariants as part
 use Rattle.cr_small.specs.declared.grammar.Level.{Level}
 use Rattle.cr_small.specs.declared.grammar.Level.TheVariants as level
@@ -57,14 +59,19 @@ initialiser_shut : (init : Option Sum) (rest : List Leaf) → opens_next (termin
 initialiser_shut None rest = refl
 initialiser_shut (Some sum) rest = refl
 
-reads-object : (l : Level) (init : Option Sum) (rest : List Leaf) → Reads (state.Start l) rest → Reads (state.Start l) (object_leaves init ++ rest)
-reads-object l init rest h = by l (subst (Reads (state.Initialiser l)) (sym (append_assoc (initialiser_leaves init) (semicolon ∷ []) rest)) (reads-initialiser l init rest h))
+-- a name that is declared as an object, and what is behind it
+reads-declarator : (l : Level) (word : Option Storage) (init : Option Sum) (rest : List Leaf) → Reads (state.Start l) rest
+    → Reads (state.Declarator l word) (name_that (part.DeclaresObject word) ∷ (initialiser_leaves init ++ semicolon ∷ []) ++ rest)
+reads-declarator l word init rest h = by l (subst (Reads (state.Initialiser l)) (sym (append_assoc (initialiser_leaves init) (semicolon ∷ []) rest)) (reads-initialiser l init rest h))
   where
-    by : (l : Level) → Reads (state.Initialiser l) (initialiser_leaves init ++ semicolon ∷ [] ++ rest) → Reads (state.Start l) (object_leaves init ++ rest)
+    by : (l : Level) → Reads (state.Initialiser l) ((initialiser_leaves init ++ semicolon ∷ []) ++ rest) → Reads (state.Declarator l word) (name_that (part.DeclaresObject word) ∷ (initialiser_leaves init ++ semicolon ∷ []) ++ rest)
     by level.File g =
-        let shut : opens_next (terminals (initialiser_leaves init ++ semicolon ∷ [] ++ rest)) ≡ false = rw (append_assoc (initialiser_leaves init) (semicolon ∷ []) rest) (initialiser_shut init rest) in
-        in_front (plain terminal.Int) _ _ (rw shut (in_front (name_that part.DeclaresObject) _ _ g))
-    by level.Block g = in_front (plain terminal.Int) _ _ (in_front (name_that part.DeclaresObject) _ _ g)
+        let shut : opens_next (terminals ((initialiser_leaves init ++ semicolon ∷ []) ++ rest)) ≡ false = rw (append_assoc (initialiser_leaves init) (semicolon ∷ []) rest) (initialiser_shut init rest) in
+        rw shut (in_front (name_that (part.DeclaresObject word)) _ _ g)
+    by level.Block g = in_front (name_that (part.DeclaresObject word)) _ _ g
+
+reads-local : (init : Option Sum) (rest : List Leaf) → Reads (state.Start level.Block) rest → Reads (state.Start level.Block) (object_leaves None init ++ rest)
+reads-local init rest h = in_front (plain terminal.Int) _ _ (reads-declarator level.Block None init rest h)
 
 reads-evaluates : (sum : Sum) (tail : List Leaf) → Reads (state.Item level.Block) (item_leaves sum.first ++ tail) → Reads (state.Start level.Block) (item_leaves sum.first ++ tail)
 reads-evaluates sum tail h = by sum.first h
@@ -75,7 +82,7 @@ reads-evaluates sum tail h = by sum.first h
     by call h = h
 
 reads-statement : (s : Statement) (rest : List Leaf) → Reads (state.Start level.Block) rest → Reads (state.Start level.Block) (statement_leaves s ++ rest)
-reads-statement (local init) rest h = reads-object level.Block init rest h
+reads-statement (local init) rest h = reads-local init rest h
 reads-statement (returns sum) rest h =
     subst (λ t. Reads (state.Start level.Block) (plain terminal.Return ∷ t)) (sym (append_assoc (sum_leaves sum) (semicolon ∷ []) rest))
     (in_front (plain terminal.Return) _ _ (reads-sum level.Block sum rest h))
@@ -91,16 +98,27 @@ reads-statements (s ∷ ss) rest h =
     subst (Reads (state.Start level.Block)) (sym (append_assoc (statement_leaves s) (flat_map statement_leaves ss) (closing ∷ rest)))
     (reads-statement s (flat_map statement_leaves ss ++ closing ∷ rest) (reads-statements ss rest h))
 
-reads-function : (rest : List Leaf) → Reads state.Body rest → Reads (state.Start level.File) (function_leaves ++ rest)
-reads-function rest h =
-    in_front (plain terminal.Int) _ _ (in_front (name_that part.DeclaresFunction) _ _ (in_front (plain terminal.Open) _ _ (in_front (plain terminal.Void) _ _ (in_front (plain terminal.Close) rest _ h))))
+-- the storage word and `int` in front of a name
+reads-word : (word : Option Storage) (ls : List Leaf) → Reads (state.Declarator level.File word) ls → Reads (state.Start level.File) (word_leaves word ++ plain terminal.Int ∷ ls)
+reads-word None ls h = in_front (plain terminal.Int) ls _ h
+reads-word (Some storage.Static) ls h = in_front (plain terminal.Static) _ _ (in_front (plain terminal.Int) ls _ h)
+reads-word (Some storage.Extern) ls h = in_front (plain terminal.Extern) _ _ (in_front (plain terminal.Int) ls _ h)
+
+reads-function : (word : Option Storage) (rest : List Leaf) → Reads state.Body rest
+    → Reads (state.Declarator level.File word) (name_that (part.DeclaresFunction word) ∷ plain terminal.Open ∷ plain terminal.Void ∷ plain terminal.Close ∷ rest)
+reads-function word rest h =
+    in_front (name_that (part.DeclaresFunction word)) _ _ (in_front (plain terminal.Open) _ _ (in_front (plain terminal.Void) _ _ (in_front (plain terminal.Close) rest _ h)))
+
+reads-declaration : (word : Option Storage) (d : Declaration) (rest : List Leaf) → Reads (state.Start level.File) rest → Reads (state.Start level.File) (word_leaves word ++ (declaration_leaves word d ++ rest))
+reads-declaration word (object init) rest h = reads-word word _ (reads-declarator level.File word init rest h)
+reads-declaration word prototype rest h = reads-word word _ (reads-function word (semicolon ∷ rest) (in_front semicolon rest _ h))
+reads-declaration word (definition ss) rest h =
+    let e : (flat_map statement_leaves ss ++ closing ∷ []) ++ rest ≡ flat_map statement_leaves ss ++ closing ∷ rest = append_assoc (flat_map statement_leaves ss) (closing ∷ []) rest in
+    subst (λ t. Reads (state.Start level.File) (word_leaves word ++ (function_leaves word ++ opening ∷ t))) (sym e) (reads-word word _ (reads-function word _ (in_front opening _ _ (reads-statements ss rest h))))
 
 reads-external : (e : External) (rest : List Leaf) → Reads (state.Start level.File) rest → Reads (state.Start level.File) (external_leaves e ++ rest)
-reads-external (object init) rest h = reads-object level.File init rest h
-reads-external prototype rest h = reads-function (semicolon ∷ rest) (in_front semicolon rest _ h)
-reads-external (definition ss) rest h =
-    let e : flat_map statement_leaves ss ++ closing ∷ [] ++ rest ≡ flat_map statement_leaves ss ++ closing ∷ rest = append_assoc (flat_map statement_leaves ss) (closing ∷ []) rest in
-    subst (λ t. Reads (state.Start level.File) (function_leaves ++ opening ∷ t)) (sym e) (reads-function _ (in_front opening _ _ (reads-statements ss rest h)))
+reads-external e rest h =
+    subst (Reads (state.Start level.File)) (sym (append_assoc (word_leaves e.word) (declaration_leaves e.word e.declaration) rest)) (reads-declaration e.word e.declaration rest h)
 
 -- the reader reads the leaves of each tree
 pub reads-tree : (tree : List External) → Reads (state.Start level.File) (leaves tree)
@@ -121,11 +139,11 @@ BehindHead ls = ((rest : List Leaf) × (ls ≡ semicolon ∷ rest) × Begun leve
 abbrev BehindName : Level → List Leaf → Type 0
 BehindName l ls = (init : Option Sum) × (rest : List Leaf) × (ls ≡ initialiser_leaves init ++ semicolon ∷ rest) × Begun l rest
 
-abbrev AtName : Level → List Leaf → Type 0
-AtName level.File ls =
-    ((rest : List Leaf) × (ls ≡ name_that part.DeclaresObject ∷ rest) × BehindName level.File rest)
-    ⊎ ((rest : List Leaf) × (ls ≡ name_that part.DeclaresFunction ∷ plain terminal.Open ∷ plain terminal.Void ∷ plain terminal.Close ∷ rest) × BehindHead rest)
-AtName level.Block ls = (rest : List Leaf) × (ls ≡ name_that part.DeclaresObject ∷ rest) × BehindName level.Block rest
+abbrev AtName : Level → Option Storage → List Leaf → Type 0
+AtName level.File word ls =
+    ((rest : List Leaf) × (ls ≡ name_that (part.DeclaresObject word) ∷ rest) × BehindName level.File rest)
+    ⊎ ((rest : List Leaf) × (ls ≡ name_that (part.DeclaresFunction word) ∷ plain terminal.Open ∷ plain terminal.Void ∷ plain terminal.Close ∷ rest) × BehindHead rest)
+AtName level.Block word ls = (rest : List Leaf) × (ls ≡ name_that (part.DeclaresObject word) ∷ rest) × BehindName level.Block rest
 
 abbrev AtItem : Level → List Leaf → Type 0
 AtItem l ls = (item : Item) × (rest : List Leaf) × (ls ≡ item_leaves item ++ rest) × BehindItem l rest
@@ -133,7 +151,8 @@ AtItem l ls = (item : Item) × (rest : List Leaf) × (ls ≡ item_leaves item ++
 -- what stands from a state on
 abbrev Remains : State → List Leaf → Type 0
 Remains (state.Start l) ls = Begun l ls
-Remains (state.Declarator l) ls = AtName l ls
+Remains (state.Stored word) ls = (rest : List Leaf) × (ls ≡ plain terminal.Int ∷ rest) × AtName level.File (Some word) rest
+Remains (state.Declarator l word) ls = AtName l word ls
 Remains (state.Initialiser l) ls = BehindName l ls
 Remains (state.Item l) ls = AtItem l ls
 Remains (state.CallOpen l) ls = (rest : List Leaf) × (ls ≡ plain terminal.Open ∷ plain terminal.Close ∷ rest) × BehindItem l rest
@@ -171,26 +190,29 @@ begun-returns ls a =
     subst (λ r. Begun level.Block (plain terminal.Return ∷ r)) (sym e) (begun-statement (returns (record { first = a.0; more = a.3.0 })) a.3.1 a.3.3)
 
 -- an object's name and what is behind it
-object-rest : (l : Level) (ls rest : List Leaf) (b : BehindName l rest) → ls ≡ name_that part.DeclaresObject ∷ rest → plain terminal.Int ∷ ls ≡ object_leaves b.0 ++ b.1
-object-rest l ls rest b e =
-    ap (λ r. plain terminal.Int ∷ r) (e ∙ ap (λ r. name_that part.DeclaresObject ∷ r) (b.2 ∙ sym (append_assoc (initialiser_leaves b.0) (semicolon ∷ []) b.1)))
+object-rest : (l : Level) (word : Option Storage) (ls rest : List Leaf) (b : BehindName l rest) → ls ≡ name_that (part.DeclaresObject word) ∷ rest → plain terminal.Int ∷ ls ≡ object_leaves word b.0 ++ b.1
+object-rest l word ls rest b e =
+    ap (λ r. plain terminal.Int ∷ r) (e ∙ ap (λ r. name_that (part.DeclaresObject word) ∷ r) (b.2 ∙ sym (append_assoc (initialiser_leaves b.0) (semicolon ∷ []) b.1)))
 
-begun-object : (ls : List Leaf) → AtName level.Block ls → Begun level.Block (plain terminal.Int ∷ ls)
-begun-object ls a = subst (Begun level.Block) (sym (object-rest level.Block ls a.0 a.2 a.1)) (begun-statement (local a.2.0) a.2.1 a.2.3)
+begun-local : (ls : List Leaf) → AtName level.Block None ls → Begun level.Block (plain terminal.Int ∷ ls)
+begun-local ls a = subst (Begun level.Block) (sym (object-rest level.Block None ls a.0 a.2 a.1)) (begun-statement (local a.2.0) a.2.1 a.2.3)
 
-function-rest : (ls rest : List Leaf) → ls ≡ name_that part.DeclaresFunction ∷ plain terminal.Open ∷ plain terminal.Void ∷ plain terminal.Close ∷ rest → plain terminal.Int ∷ ls ≡ function_leaves ++ rest
-function-rest ls rest e = ap (λ r. plain terminal.Int ∷ r) e
+begun-declaration : (word : Option Storage) (d : Declaration) (rest : List Leaf) → Begun level.File rest → Begun level.File (word_leaves word ++ (declaration_leaves word d ++ rest))
+begun-declaration word d rest b = subst (Begun level.File) (append_assoc (word_leaves word) (declaration_leaves word d) rest) (begun-external (record { word = word; declaration = d }) rest b)
 
-begun-head : (rest : List Leaf) → BehindHead rest → Begun level.File (function_leaves ++ rest)
-begun-head rest (inl b) = subst (λ r. Begun level.File (function_leaves ++ r)) (sym b.1) (begun-external prototype b.0 b.2)
-begun-head rest (inr b) =
-    let e : rest ≡ opening ∷ (flat_map statement_leaves b.2.0 ++ closing ∷ [] ++ leaves b.2.1) =
+begun-head : (word : Option Storage) (rest : List Leaf) → BehindHead rest → Begun level.File (word_leaves word ++ (function_leaves word ++ rest))
+begun-head word rest (inl b) = subst (λ r. Begun level.File (word_leaves word ++ (function_leaves word ++ r))) (sym b.1) (begun-declaration word prototype b.0 b.2)
+begun-head word rest (inr b) =
+    let e : rest ≡ opening ∷ ((flat_map statement_leaves b.2.0 ++ closing ∷ []) ++ leaves b.2.1) =
     b.1 ∙ ap (λ r. opening ∷ r) (b.2.2 ∙ sym (append_assoc (flat_map statement_leaves b.2.0) (closing ∷ []) (leaves b.2.1))) in
-    subst (λ r. Begun level.File (function_leaves ++ r)) (sym e) (begun-external (definition b.2.0) (leaves b.2.1) (b.2.1, refl))
+    subst (λ r. Begun level.File (word_leaves word ++ (function_leaves word ++ r))) (sym e) (begun-declaration word (definition b.2.0) (leaves b.2.1) (b.2.1, refl))
 
-begun-name : (ls : List Leaf) → AtName level.File ls → Begun level.File (plain terminal.Int ∷ ls)
-begun-name ls (inl a) = subst (Begun level.File) (sym (object-rest level.File ls a.0 a.2 a.1)) (begun-external (object a.2.0) a.2.1 a.2.3)
-begun-name ls (inr a) = subst (Begun level.File) (sym (function-rest ls a.0 a.1)) (begun-head a.0 a.2)
+begun-name : (word : Option Storage) (ls : List Leaf) → AtName level.File word ls → Begun level.File (word_leaves word ++ plain terminal.Int ∷ ls)
+begun-name word ls (inl a) = subst (λ r. Begun level.File (word_leaves word ++ r)) (sym (object-rest level.File word ls a.0 a.2 a.1)) (begun-declaration word (object a.2.0) a.2.1 a.2.3)
+begun-name word ls (inr a) = subst (λ r. Begun level.File (word_leaves word ++ plain terminal.Int ∷ r)) (sym a.1) (begun-head word a.0 a.2)
+
+begun-word : (word : Storage) (ls : List Leaf) → Remains (state.Stored word) ls → Begun level.File (word_leaves (Some word) ++ ls)
+begun-word word ls r = subst (λ x. Begun level.File (word_leaves (Some word) ++ x)) (sym r.1) (begun-name (Some word) r.0 r.2)
 
 item-back : (l : Level) (t : Terminal) (calls : Bool) → Follows (state.Item l) t (item l t calls)
 item-back l terminal.Number calls = λ ls r. (number, ls, refl, r)
@@ -203,22 +225,25 @@ evaluates-back t None h = tt
 evaluates-back t (Some m) h = λ ls r. begun-evaluates _ (h ls r)
 
 start-back : (l : Level) (t : Terminal) (calls : Bool) → Follows (state.Start l) t (start l t calls)
-start-back level.File terminal.Int calls = λ ls r. begun-name ls r
+start-back level.File terminal.Static calls = λ ls r. begun-word storage.Static ls r
+start-back level.File terminal.Extern calls = λ ls r. begun-word storage.Extern ls r
+start-back level.File terminal.Int calls = λ ls r. begun-name None ls r
 start-back level.File _ calls = tt
-start-back level.Block terminal.Int calls = λ ls r. begun-object ls r
+start-back level.Block terminal.Int calls = λ ls r. begun-local ls r
 start-back level.Block terminal.Return calls = λ ls r. begun-returns ls r
 start-back level.Block terminal.End calls = λ ls r. ([], r.0, ap (λ x. closing ∷ x) r.1)
 start-back level.Block t calls = evaluates-back t (item level.Block t calls) (item-back level.Block t calls)
 
-declarator-back : (l : Level) (calls : Bool) → Follows (state.Declarator l) terminal.Name (Some (declarator l calls))
-declarator-back level.File true = λ ls r. inr (r.0, ap (λ x. name_that part.DeclaresFunction ∷ x) r.1, r.2)
-declarator-back level.File false = λ ls r. inl (ls, refl, r)
-declarator-back level.Block calls = λ ls r. (ls, refl, r)
+declarator-back : (l : Level) (word : Option Storage) (calls : Bool) → Follows (state.Declarator l word) terminal.Name (Some (declarator l word calls))
+declarator-back level.File word true = λ ls r. inr (r.0, ap (λ x. name_that (part.DeclaresFunction word) ∷ x) r.1, r.2)
+declarator-back level.File word false = λ ls r. inl (ls, refl, r)
+declarator-back level.Block word calls = λ ls r. (ls, refl, r)
 
 -- what stands behind a move stands, with its leaf, before it
 back : (s : State) (t : Terminal) (calls : Bool) → Follows s t (step s t calls)
 back (state.Start l) t calls = start-back l t calls
-back (state.Declarator l) terminal.Name calls = declarator-back l calls
+back (state.Stored word) terminal.Int calls = λ ls r. (ls, refl, r)
+back (state.Declarator l word) terminal.Name calls = declarator-back l word calls
 back (state.Initialiser l) terminal.Assign calls = λ ls r. (Some (record { first = r.0; more = r.3.0 }), r.3.1, ap (λ x. plain terminal.Assign ∷ x) (r.2 ∙ ap (λ x. item_leaves r.0 ++ x) r.3.2 ∙ sym (append_assoc (item_leaves r.0) (more_leaves r.3.0) (semicolon ∷ r.3.1))), r.3.3)
 back (state.Initialiser l) terminal.Semicolon calls = λ ls r. (None, ls, refl, r)
 back (state.Item l) t calls = item-back l t calls

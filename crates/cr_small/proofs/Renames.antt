@@ -1,17 +1,18 @@
 -- The walk over a text with a new name meets what the walk over the text met.
-use Rattle.std.proofs.Common.{◌≡◌, ℕ, ◌+◌, Bool, true, false, not, ◌&&◌, ◌||◌, List, [], ◌∷◌, ◌++◌, map, Option, Some, None, refl, sym, ap, ◌∙◌, subst, cond, eqb-true}
+use Rattle.std.proofs.Common.{◌≡◌, ℕ, ◌+◌, Bool, true, false, ◌&&◌, ◌||◌, List, [], ◌∷◌, ◌++◌, map, Option, Some, None, refl, sym, ap, ◌∙◌, subst, cond, eqb-true}
 use Rattle.std.specs.Prelude.{if◌then◌else◌, bytes_eq, ◌==◌}
 use Rattle.std.specs.List.{list_any, find}
 use Rattle.std.specs.Option.{option_map, option_or, option_and_then, is_some}
 use Rattle.cr_small.specs.Tokens.{Token}
-use Rattle.cr_small.specs.Declarations.{Entry, is_in, last_in, lookup, is_external, first_external, token_or, entity_of, both_or_neither, clashes, is_redeclared}
+use Rattle.cr_small.specs.Declarations.{Entry, is_in, last_in, lookup, is_linked, first_linked, token_or, entity_of, is_internal, is_seen_internal, is_second, are_opposite, clashes, is_redeclared}
 use Rattle.cr_small.specs.Resolution.{Bindings, Bound, bound, resolved, declared, mentioned, denotation, entry_at, is_file_scope}
-use Rattle.cr_small.specs.Renaming.{denotes_entity}
+use Rattle.cr_small.proofs.Entities.{denotes_entity}
+use Rattle.cr_small.specs.declared.grammar.Storage.{Storage}
 use Rattle.cr_small.specs.declared.grammar.Part.{Part}
 use Rattle.cr_small.specs.declared.grammar.Part.TheVariants as part
 use Rattle.cr_small.specs.declared.binder.Denotation.{Denotation}
 use Rattle.cr_small.proofs.Flat.{both, bytes_eq-true, bytes_eq-refl, find-push, last_in-any}
-use Rattle.cr_small.proofs.Names.{All, All-push, All-lookup, IsNamed, entity-named, TextsFrom}
+use Rattle.cr_small.proofs.Names.{All, All-push, All-last_in, All-lookup, IsNamed, entity-named, TextsFrom}
 
 pub All-map : (P Q : Entry → Type 0) (es : List Entry) → ((e : Entry) → P e → Q e) → All P es → All Q es
 All-map P Q [] h a = tt
@@ -101,14 +102,14 @@ lookup-some r (scope ∷ out) name name' es e a h n = by (last_in (scope ∷ out
 module _ (f : ℕ → List ℕ) (entity : ℕ) (new : List ℕ) where
   -- an entry with the new name, if it declares the entity
   abbrev pub rename : List Entry → Entry → Entry
-  rename es e = record { path = e.path; name = if entity_of es e == entity then new else e.name; token = e.token; function = e.function; external = e.external }
+  rename es e = record { path = e.path; name = if entity_of es e == entity then new else e.name; token = e.token; function = e.function; linked = e.linked; internal = e.internal }
 
-  -- what is known of each entry: it is named as its token is spelled, not by the new name, and is known by its name if it is external
+  -- what is known of each entry: it is named as its token is spelled, not by the new name, is known by its name if it has linkage, and has it at file scope
   abbrev pub IsFresh : List ℕ → Type 0
   IsFresh name = bytes_eq name new ≡ false
 
   abbrev pub IsKnown : List Entry → Entry → Type 0
-  IsKnown es e = IsNamed f e × IsFresh e.name × (e.external ≡ true → is_some (first_external e.name es) ≡ true)
+  IsKnown es e = IsNamed f e × IsFresh e.name × (e.linked ≡ true → is_some (first_linked e.name es) ≡ true) × (e.path ≡ [] → e.linked ≡ true)
 
   abbrev pub renamed : Bindings → Bindings
   renamed b = record { entries = map (rename b.entries) b.entries; path = b.path; next = b.next }
@@ -126,22 +127,22 @@ module _ (f : ℕ → List ℕ) (entity : ℕ) (new : List ℕ) where
       by false h true g t = let no : true ≡ false = sym t ∙ k.1 in let bad : ⊥ = cc in absurd bad
       by false h false g t = t
 
-  -- external declarations of one name are one entity
-  one-entity : (es : List Entry) (e y : Entry) → IsKnown es e → IsKnown es y → e.external ≡ true → y.external ≡ true → y.name ≡ e.name → entity_of es y ≡ entity_of es e
+  -- declarations of one name with linkage are one entity
+  one-entity : (es : List Entry) (e y : Entry) → IsKnown es e → IsKnown es y → e.linked ≡ true → y.linked ≡ true → y.name ≡ e.name → entity_of es y ≡ entity_of es e
   one-entity es e y k l x z same =
-      ap (λ b. if b then token_or y.token (first_external y.name es) else y.token) z
-      ∙ ap (λ n. token_or y.token (first_external n es)) same
-      ∙ default (first_external e.name es) (k.2 x)
-      ∙ sym (ap (λ b. if b then token_or e.token (first_external e.name es) else e.token) x)
+      ap (λ b. if b then token_or y.token (first_linked y.name es) else y.token) z
+      ∙ ap (λ n. token_or y.token (first_linked n es)) same
+      ∙ default (first_linked e.name es) (k.2 x)
+      ∙ sym (ap (λ b. if b then token_or e.token (first_linked e.name es) else e.token) x)
     where
       default : (o : Option Entry) → is_some o ≡ true → token_or y.token o ≡ token_or e.token o
       default None h = let bad : ⊥ = cc in absurd bad
       default (Some w) h = refl
 
-  external-kept : (es : List Entry) (e : Entry) → All (IsKnown es) es → IsKnown es e → e.external ≡ true → (y : Entry) → IsKnown es y → is_external (rename es e).name (rename es y) ≡ is_external e.name y
-  external-kept es e all k x y l = by y.external refl (bytes_eq y.name e.name) refl (bytes_eq (rename es y).name (rename es e).name) refl
+  linked-kept : (es : List Entry) (e : Entry) → All (IsKnown es) es → IsKnown es e → e.linked ≡ true → (y : Entry) → IsKnown es y → is_linked (rename es e).name (rename es y) ≡ is_linked e.name y
+  linked-kept es e all k x y l = by y.linked refl (bytes_eq y.name e.name) refl (bytes_eq (rename es y).name (rename es e).name) refl
     where
-      by : (z : Bool) → y.external ≡ z → (s : Bool) → bytes_eq y.name e.name ≡ s → (t : Bool) → bytes_eq (rename es y).name (rename es e).name ≡ t → (z && t) ≡ (z && s)
+      by : (z : Bool) → y.linked ≡ z → (s : Bool) → bytes_eq y.name e.name ≡ s → (t : Bool) → bytes_eq (rename es y).name (rename es e).name ≡ t → (z && t) ≡ (z && s)
       by false z s h t g = refl
       by true z true h t g =
           let n : y.name ≡ e.name = bytes_eq-true y.name e.name h in
@@ -155,38 +156,38 @@ module _ (f : ℕ → List ℕ) (entity : ℕ) (new : List ℕ) where
 
   -- each entry declares the entity that it declared
   entity-kept : (es : List Entry) (e : Entry) → All (IsKnown es) es → IsKnown es e → entity_of (map (rename es) es) (rename es e) ≡ entity_of es e
-  entity-kept es e all k = by e.external refl
+  entity-kept es e all k = by e.linked refl
     where
       tokens : (o : Option Entry) → token_or e.token (option_map (rename es) o) ≡ token_or e.token o
       tokens None = refl
       tokens (Some w) = refl
 
-      by : (z : Bool) → e.external ≡ z → (if z then token_or e.token (first_external (rename es e).name (map (rename es) es)) else e.token) ≡ (if z then token_or e.token (first_external e.name es) else e.token)
+      by : (z : Bool) → e.linked ≡ z → (if z then token_or e.token (first_linked (rename es e).name (map (rename es) es)) else e.token) ≡ (if z then token_or e.token (first_linked e.name es) else e.token)
       by false x = refl
       by true x =
-          ap (token_or e.token) (find-map (is_external e.name) (is_external (rename es e).name) (rename es) es (All-map (IsKnown es) (λ y. is_external (rename es e).name (rename es y) ≡ is_external e.name y) es (λ y l. external-kept es e all k x y l) all))
-          ∙ tokens (first_external e.name es)
+          ap (token_or e.token) (find-map (is_linked e.name) (is_linked (rename es e).name) (rename es) es (All-map (IsKnown es) (λ y. is_linked (rename es e).name (rename es y) ≡ is_linked e.name y) es (λ y l. linked-kept es e all k x y l) all))
+          ∙ tokens (first_linked e.name es)
 
   denotation-kept : (es : List Entry) (e : Entry) → All (IsKnown es) es → IsKnown es e → denotation (map (rename es) es) (rename es e) ≡ denotation es e
-  denotation-kept es e all k = ap {B = Denotation} (λ t. record { token = t; external = e.external }) (entity-kept es e all k)
+  denotation-kept es e all k = ap {B = Denotation} (λ t. record { token = t; linked = e.linked; internal = e.internal }) (entity-kept es e all k)
 
   -- one declaration more leaves the entities of the others
-  some-push : (es : List Entry) (new_one : Entry) (name : List ℕ) → is_some (first_external name es) ≡ true → first_external name (es ++ new_one ∷ []) ≡ first_external name es
-  some-push es new_one name h = find-push (is_external name) es new_one ∙ by (first_external name es) h
+  some-push : (es : List Entry) (new_one : Entry) (name : List ℕ) → is_some (first_linked name es) ≡ true → first_linked name (es ++ new_one ∷ []) ≡ first_linked name es
+  some-push es new_one name h = find-push (is_linked name) es new_one ∙ by (first_linked name es) h
     where
-      by : (o : Option Entry) → is_some o ≡ true → option_or o (if is_external name new_one then Some new_one else None) ≡ o
+      by : (o : Option Entry) → is_some o ≡ true → option_or o (if is_linked name new_one then Some new_one else None) ≡ o
       by None g = let bad : ⊥ = cc in absurd bad
       by (Some w) g = refl
 
   entity-push : (es : List Entry) (new_one e : Entry) → IsKnown es e → entity_of (es ++ new_one ∷ []) e ≡ entity_of es e
-  entity-push es new_one e k = by e.external refl
+  entity-push es new_one e k = by e.linked refl
     where
-      by : (z : Bool) → e.external ≡ z → (if z then token_or e.token (first_external e.name (es ++ new_one ∷ [])) else e.token) ≡ (if z then token_or e.token (first_external e.name es) else e.token)
+      by : (z : Bool) → e.linked ≡ z → (if z then token_or e.token (first_linked e.name (es ++ new_one ∷ [])) else e.token) ≡ (if z then token_or e.token (first_linked e.name es) else e.token)
       by false x = refl
       by true x = ap (token_or e.token) (some-push es new_one e.name (k.2 x))
 
   rename-push : (es : List Entry) (new_one e : Entry) → IsKnown es e → rename (es ++ new_one ∷ []) e ≡ rename es e
-  rename-push es new_one e k = ap {B = Entry} (λ t. record { path = e.path; name = if t == entity then new else e.name; token = e.token; function = e.function; external = e.external }) (entity-push es new_one e k)
+  rename-push es new_one e k = ap {B = Entry} (λ t. record { path = e.path; name = if t == entity then new else e.name; token = e.token; function = e.function; linked = e.linked; internal = e.internal }) (entity-push es new_one e k)
 
   renamed-push : (es : List Entry) (e : Entry) → All (IsKnown es) es → map (rename (es ++ e ∷ [])) (es ++ e ∷ []) ≡ map (rename es) es ++ rename (es ++ e ∷ []) e ∷ []
   renamed-push es e all =
@@ -194,18 +195,21 @@ module _ (f : ℕ → List ℕ) (entity : ℕ) (new : List ℕ) where
       ∙ ap (λ l. l ++ rename (es ++ e ∷ []) e ∷ []) (map-all (rename (es ++ e ∷ [])) (rename es) es (All-map (IsKnown es) (λ y. rename (es ++ e ∷ []) y ≡ rename es y) es (λ y k. rename-push es e y k) all))
 
   -- a new entry is known among the others
-  pub known-self : (es : List Entry) (e : Entry) → IsNamed f e → IsFresh e.name → IsKnown (es ++ e ∷ []) e
-  known-self es e own fresh = (own, fresh, λ x. ap is_some (find-push (is_external e.name) es e) ∙ by (first_external e.name es) (ap (λ b. b && bytes_eq e.name e.name) x ∙ bytes_eq-refl e.name))
+  pub known-self : (es : List Entry) (e : Entry) → IsNamed f e → IsFresh e.name → (e.path ≡ [] → e.linked ≡ true) → IsKnown (es ++ e ∷ []) e
+  known-self es e own fresh at_file = (own, fresh, λ x. ap is_some (find-push (is_linked e.name) es e) ∙ by (first_linked e.name es) (ap (λ b. b && bytes_eq e.name e.name) x ∙ bytes_eq-refl e.name), at_file)
     where
-      by : (o : Option Entry) → is_external e.name e ≡ true → is_some (option_or o (if is_external e.name e then Some e else None)) ≡ true
+      by : (o : Option Entry) → is_linked e.name e ≡ true → is_some (option_or o (if is_linked e.name e then Some e else None)) ≡ true
       by None h = ap (λ b. is_some (if b then Some e else None)) h
       by (Some w) h = refl
 
-  pub known-push : (es : List Entry) (e : Entry) → All (IsKnown es) es → IsNamed f e → IsFresh e.name → All (IsKnown (es ++ e ∷ [])) (es ++ e ∷ [])
-  known-push es e all own fresh =
+  still-known : (es : List Entry) (new_one e : Entry) → IsKnown es e → IsKnown (es ++ new_one ∷ []) e
+  still-known es new_one e k = (k.0, k.1, λ x. ap is_some (some-push es new_one e.name (k.2 x)) ∙ k.2 x, k.3)
+
+  pub known-push : (es : List Entry) (e : Entry) → All (IsKnown es) es → IsNamed f e → IsFresh e.name → (e.path ≡ [] → e.linked ≡ true) → All (IsKnown (es ++ e ∷ [])) (es ++ e ∷ [])
+  known-push es e all own fresh at_file =
       All-push (IsKnown (es ++ e ∷ [])) es e
-      (All-map (IsKnown es) (IsKnown (es ++ e ∷ [])) es (λ y k. (k.0, k.1, λ x. ap is_some (some-push es e y.name (k.2 x)) ∙ k.2 x)) all)
-      (known-self es e own fresh)
+      (All-map (IsKnown es) (IsKnown (es ++ e ∷ [])) es (λ y k. still-known es e y k) all)
+      (known-self es e own fresh at_file)
 
   abbrev pub text_behind : List ℕ → Option Denotation → List ℕ
   text_behind text d = if denotes_entity entity d then new else text
@@ -226,60 +230,106 @@ module _ (f : ℕ → List ℕ) (entity : ℕ) (new : List ℕ) where
       let found = lookup-some (rename b.entries) b.path text (if c then new else text) b.entries e a h (ap (λ m. if c then new else m) k.1) in
       (ap (mentioned (renamed b)) found ∙ ap (λ d. Some (record { after = renamed b; denotes = Some d })) (denotation-kept b.entries e all k.0), all)
 
-  clash-apart : (b : Bindings) (n : ℕ) (text text' : List ℕ) (function : Bool) (y : Entry) → IsApart (rename b.entries) text text' y
-      → clashes (entry_at (renamed b) function text' n) (rename b.entries y) ≡ true → clashes (entry_at b function text n) y ≡ true
-  clash-apart b n text text' function y a h =
-      let flags = not (is_file_scope b.path && y.external && both_or_neither function y.function) in
-      let w = both (is_in b.path text' (rename b.entries y)) flags h in
-      ap (λ z. z && flags) (in-apart (rename b.entries) b.path text text' y a w.0) ∙ w.1
+  clash-apart : (b : Bindings) (e : Entry) (es : List Entry) (y : Entry) → IsApart (rename b.entries) e.name (rename es e).name y
+      → clashes (rename es e) (rename b.entries y) ≡ true → clashes e y ≡ true
+  clash-apart b e es y a h =
+      let flags = is_second e y || are_opposite e y in
+      let w = both (bytes_eq (rename b.entries y).name (rename es e).name) flags h in
+      ap (λ z. z && flags) (a.1 w.0) ∙ w.1
 
-  abbrev FollowsDeclared : Bindings → ℕ → List ℕ → Bool → Option Bound → Type 0
-  FollowsDeclared b n text function None = Unit {0}
-  FollowsDeclared b n text function (Some d) =
-      (declared (renamed b) (entry_at (renamed b) function (text_behind text d.denotes) n) ≡ Some (record { after = renamed d.after; denotes = d.denotes })) × All (IsKnown d.after.entries) d.after.entries
+  -- the declaration with the new name sees the linkage that the declaration saw
+  seen-kept : (b : Bindings) (e : Entry) → All (IsKnown b.entries) b.entries → All (IsKnown (b.entries ++ e ∷ [])) (b.entries ++ e ∷ []) → IsKnown (b.entries ++ e ∷ []) e → e.linked ≡ true
+      → is_seen_internal (last_in [] (rename (b.entries ++ e ∷ []) e).name (map (rename b.entries) b.entries)) ≡ is_seen_internal (last_in [] e.name b.entries)
+  seen-kept b e all known k x = by (last_in [] e.name b.entries) refl
+    where
+      es : List Entry
+      es = b.entries ++ e ∷ []
 
-  declare-follows : (b : Bindings) (n : ℕ) (text : List ℕ) (function : Bool) → All (IsKnown b.entries) b.entries → IsFresh text → f n ≡ text
-      → (x : Bool) → is_redeclared b.entries (entry_at b function text n) ≡ x
-      → (d : Bound) → (if x then None else Some (record { after = record { entries = b.entries ++ entry_at b function text n ∷ []; path = b.path; next = b.next }; denotes = Some (denotation (b.entries ++ entry_at b function text n ∷ []) (entry_at b function text n)) })) ≡ Some d
-      → (declared (renamed b) (entry_at (renamed b) function (text_behind text d.denotes) n) ≡ Some (record { after = renamed d.after; denotes = d.denotes })) × All (IsKnown d.after.entries) d.after.entries
-  declare-follows b n text function all fresh own true r d h = let bad : ⊥ = cc in absurd bad
-  declare-follows b n text function all fresh own false r d h =
-      let e = entry_at b function text n in
+      c : Bool
+      c = entity_of es e == entity
+
+      apart_all : All (IsApart (rename b.entries) e.name (rename es e).name) b.entries
+      apart_all = All-map (IsKnown b.entries) (IsApart (rename b.entries) e.name (rename es e).name) b.entries (λ y l. apart b.entries e.name c all k.1 (λ g. named es e known k g) y l) all
+
+      own : (y : Entry) → last_in [] e.name b.entries ≡ Some y → (rename b.entries y).name ≡ (rename es e).name
+      own y h =
+          let l = All-last_in (IsKnown b.entries) [] e.name b.entries y all h in
+          let one : entity_of b.entries y ≡ entity_of es e = sym (entity-push b.entries e y l.0) ∙ one-entity es e y k (still-known b.entries e y l.0) x (l.0.3 l.2) l.1 in
+          ap (λ w. if w == entity then new else y.name) one ∙ ap (λ m. if entity_of es e == entity then new else m) l.1
+
+      by : (o : Option Entry) → last_in [] e.name b.entries ≡ o → is_seen_internal (last_in [] (rename es e).name (map (rename b.entries) b.entries)) ≡ is_seen_internal o
+      by None h = ap is_seen_internal (last_in-none (rename b.entries) [] e.name (rename es e).name b.entries apart_all h)
+      by (Some y) h = ap is_seen_internal (last_in-some (rename b.entries) [] e.name (rename es e).name b.entries y apart_all h (own y h))
+
+  -- so it is the declaration with the new name
+  declares-renamed : (b : Bindings) (n : ℕ) (text : List ℕ) (function : Bool) (word : Option Storage) → All (IsKnown b.entries) b.entries
+      → (let e = entry_at b function word text n in All (IsKnown (b.entries ++ e ∷ [])) (b.entries ++ e ∷ []) → IsKnown (b.entries ++ e ∷ []) e
+      → entry_at (renamed b) function word (rename (b.entries ++ e ∷ []) e).name n ≡ rename (b.entries ++ e ∷ []) e)
+  declares-renamed b n text function word all known k = ap (λ i. record { path = b.path; name = name'; token = n; function = function; linked = is_file_scope b.path; internal = i }) (by b.path refl)
+    where
+      e : Entry
+      e = entry_at b function word text n
+
+      name' : List ℕ
+      name' = (rename (b.entries ++ e ∷ []) e).name
+
+      by : (path : List ℕ) → b.path ≡ path
+          → (is_file_scope path && is_internal function (is_seen_internal (lookup (map (rename b.entries) b.entries) name' path)) word) ≡ (is_file_scope path && is_internal function (is_seen_internal (lookup b.entries text path)) word)
+      by [] h = ap (λ s. is_internal function s word) (seen-kept b e all known k (ap is_file_scope h))
+      by (scope ∷ out) h = refl
+
+  declared-free : (b : Bindings) (e : Entry) → is_redeclared b.entries e ≡ false
+      → declared b e ≡ Some (record { after = record { entries = b.entries ++ e ∷ []; path = b.path; next = b.next }; denotes = Some (denotation (b.entries ++ e ∷ []) e) })
+  declared-free b e free = ap (λ x. if x then None else Some (record { after = record { entries = b.entries ++ e ∷ []; path = b.path; next = b.next }; denotes = Some (denotation (b.entries ++ e ∷ []) e) })) free
+
+  abbrev FollowsDeclared : Bindings → ℕ → List ℕ → Bool → Option Storage → Option Bound → Type 0
+  FollowsDeclared b n text function word None = Unit {0}
+  FollowsDeclared b n text function word (Some d) =
+      (declared (renamed b) (entry_at (renamed b) function word (text_behind text d.denotes) n) ≡ Some (record { after = renamed d.after; denotes = d.denotes })) × All (IsKnown d.after.entries) d.after.entries
+
+  declare-follows : (b : Bindings) (n : ℕ) (text : List ℕ) (function : Bool) (word : Option Storage) → All (IsKnown b.entries) b.entries → IsFresh text → f n ≡ text
+      → (x : Bool) → is_redeclared b.entries (entry_at b function word text n) ≡ x
+      → (d : Bound) → (if x then None else Some (record { after = record { entries = b.entries ++ entry_at b function word text n ∷ []; path = b.path; next = b.next }; denotes = Some (denotation (b.entries ++ entry_at b function word text n ∷ []) (entry_at b function word text n)) })) ≡ Some d
+      → (declared (renamed b) (entry_at (renamed b) function word (text_behind text d.denotes) n) ≡ Some (record { after = renamed d.after; denotes = d.denotes })) × All (IsKnown d.after.entries) d.after.entries
+  declare-follows b n text function word all fresh own true r d h = let bad : ⊥ = cc in absurd bad
+  declare-follows b n text function word all fresh own false r d h =
+      let e = entry_at b function word text n in
       let es = b.entries ++ e ∷ [] in
-      let known = known-push b.entries e all own fresh in
-      let k : IsKnown es e = known-self b.entries e own fresh in
+      let known = known-push b.entries e all own fresh (λ p. ap is_file_scope p) in
+      let k : IsKnown es e = known-self b.entries e own fresh (λ p. ap is_file_scope p) in
       let c = entity_of es e == entity in
       let mine : c ≡ true → f entity ≡ text = λ g. named es e known k g in
-      let a = All-map (IsKnown b.entries) (λ y. clashes (entry_at (renamed b) function (if c then new else text) n) (rename b.entries y) ≡ true → clashes e y ≡ true) b.entries
-      (λ y l. clash-apart b n text (if c then new else text) function y (apart b.entries text c all fresh mine y l)) all in
-      let free : is_redeclared (map (rename b.entries) b.entries) (entry_at (renamed b) function (if c then new else text) n) ≡ false =
-      list_any-map-none (clashes e) (clashes (entry_at (renamed b) function (if c then new else text) n)) (rename b.entries) b.entries a r in
-      let grown : map (rename b.entries) b.entries ++ entry_at (renamed b) function (if c then new else text) n ∷ [] ≡ map (rename es) es = sym (renamed-push b.entries e all) in
+      let a = All-map (IsKnown b.entries) (λ y. clashes (rename es e) (rename b.entries y) ≡ true → clashes e y ≡ true) b.entries
+      (λ y l. clash-apart b e es y (apart b.entries text c all fresh mine y l)) all in
+      let free : is_redeclared (map (rename b.entries) b.entries) (rename es e) ≡ false =
+      list_any-map-none (clashes e) (clashes (rename es e)) (rename b.entries) b.entries a r in
+      let grown : map (rename b.entries) b.entries ++ rename es e ∷ [] ≡ map (rename es) es = sym (renamed-push b.entries e all) in
       let same : (record { after = record { entries = es; path = b.path; next = b.next }; denotes = Some (denotation es e) }) ≡ d = cc in
-      subst (λ d. (declared (renamed b) (entry_at (renamed b) function (text_behind text d.denotes) n) ≡ Some (record { after = renamed d.after; denotes = d.denotes })) × All (IsKnown d.after.entries) d.after.entries) same (
-        ap (λ x. if x then None else Some (record { after = record { entries = map (rename b.entries) b.entries ++ entry_at (renamed b) function (if c then new else text) n ∷ []; path = b.path; next = b.next }; denotes = Some (denotation (map (rename b.entries) b.entries ++ entry_at (renamed b) function (if c then new else text) n ∷ []) (entry_at (renamed b) function (if c then new else text) n)) })) free
+      subst (λ d. (declared (renamed b) (entry_at (renamed b) function word (text_behind text d.denotes) n) ≡ Some (record { after = renamed d.after; denotes = d.denotes })) × All (IsKnown d.after.entries) d.after.entries) same (
+        ap (declared (renamed b)) (declares-renamed b n text function word all known k)
+            ∙ declared-free (renamed b) (rename es e) free
             ∙ ap (λ l. Some (record { after = record { entries = l; path = b.path; next = b.next }; denotes = Some (denotation l (rename es e)) })) grown
             ∙ ap (λ x. Some (record { after = record { entries = map (rename es) es; path = b.path; next = b.next }; denotes = Some x })) (denotation-kept es e known k),
         known,
       )
 
-  declared-follows : (b : Bindings) (n : ℕ) (text : List ℕ) (function : Bool) → All (IsKnown b.entries) b.entries → IsFresh text → f n ≡ text → (o : Option Bound) → declared b (entry_at b function text n) ≡ o
-      → FollowsDeclared b n text function o
-  declared-follows b n text function all fresh own None h = tt
-  declared-follows b n text function all fresh own (Some d) h = declare-follows b n text function all fresh own (is_redeclared b.entries (entry_at b function text n)) refl d h
+  declared-follows : (b : Bindings) (n : ℕ) (text : List ℕ) (function : Bool) (word : Option Storage) → All (IsKnown b.entries) b.entries → IsFresh text → f n ≡ text → (o : Option Bound) → declared b (entry_at b function word text n) ≡ o
+      → FollowsDeclared b n text function word o
+  declared-follows b n text function word all fresh own None h = tt
+  declared-follows b n text function word all fresh own (Some d) h = declare-follows b n text function word all fresh own (is_redeclared b.entries (entry_at b function word text n)) refl d h
 
   pub bound-follows : (b : Bindings) (n : ℕ) (text : List ℕ) (p : Part) → All (IsKnown b.entries) b.entries → IsFresh text → f n ≡ text → Follows b n text p (bound b n text p)
   bound-follows b n text part.Plain all fresh own = (refl, all)
   bound-follows b n text part.Opens all fresh own = (refl, all)
   bound-follows b n text part.Closes all fresh own = (refl, all)
-  bound-follows b n text part.DeclaresObject all fresh own = as_object (declared b (entry_at b false text n)) (declared-follows b n text false all fresh own (declared b (entry_at b false text n)) refl)
+  bound-follows b n text (part.DeclaresObject word) all fresh own = as_object (declared b (entry_at b false word text n)) (declared-follows b n text false word all fresh own (declared b (entry_at b false word text n)) refl)
     where
-      as_object : (o : Option Bound) → FollowsDeclared b n text false o → Follows b n text part.DeclaresObject o
+      as_object : (o : Option Bound) → FollowsDeclared b n text false word o → Follows b n text (part.DeclaresObject word) o
       as_object None h = tt
       as_object (Some d) h = h
-  bound-follows b n text part.DeclaresFunction all fresh own = as_function (declared b (entry_at b true text n)) (declared-follows b n text true all fresh own (declared b (entry_at b true text n)) refl)
+  bound-follows b n text (part.DeclaresFunction word) all fresh own = as_function (declared b (entry_at b true word text n)) (declared-follows b n text true word all fresh own (declared b (entry_at b true word text n)) refl)
     where
-      as_function : (o : Option Bound) → FollowsDeclared b n text true o → Follows b n text part.DeclaresFunction o
+      as_function : (o : Option Bound) → FollowsDeclared b n text true word o → Follows b n text (part.DeclaresFunction word) o
       as_function None h = tt
       as_function (Some d) h = h
   bound-follows b n text part.Mentions all fresh own = mention-follows b n text (lookup b.entries text b.path) all fresh refl

@@ -6,12 +6,13 @@ use Rattle.std.specs.Option.{option_map, option_and_then}
 use Rattle.cr_base.specs.Names.{is_word_byte, is_digit, starts_name, is_identifier, is_keyword, keywords}
 use Rattle.cr_small.specs.Tokens.{Token}
 use Rattle.cr_small.specs.Terminals.{is_name, is_number, punctuator, terminal_of}
-use Rattle.cr_small.specs.Tree.{Item, number, mention, call, Sum, Statement, local, returns, evaluates, External, object, prototype, definition, Leaf, item_leaves, more_leaves, sum_leaves, initialiser_leaves, object_leaves, statement_leaves, closing, external_leaves, leaves, plain}
+use Rattle.cr_small.specs.Tree.{Item, number, mention, call, Sum, Statement, local, returns, evaluates, External, Declaration, object, prototype, definition, Leaf, item_leaves, more_leaves, sum_leaves, initialiser_leaves, object_leaves, statement_leaves, closing, declaration_leaves, word_leaves, external_leaves, leaves, plain}
 use Rattle.cr_small.specs.Resolution.{Bindings, Bound, bound, resolved, file_scope}
-use Rattle.cr_small.specs.Renaming.{Target, target_of, target_at, covers}
 use Rattle.cr_small.specs.SmallForm.{IsWellFormed}
 use Rattle.cr_small.specs.declared.terminal.Terminal.{Terminal}
 use Rattle.cr_small.specs.declared.terminal.Terminal.TheVariants as terminal
+use Rattle.cr_small.specs.declared.grammar.Storage.{Storage}
+use Rattle.cr_small.specs.declared.grammar.Storage.TheVariants as storage
 use Rattle.cr_small.specs.declared.grammar.Part.{Part}
 use Rattle.cr_small.specs.declared.grammar.Part.TheVariants as part
 use Rattle.cr_small.specs.declared.binder.Denotation.{Denotation}
@@ -36,15 +37,17 @@ punctuator-other (x ∷ y ∷ w) h = cc
 -- a token that is a name in the grammar is one
 pub name-of-terminal : (w : List ℕ) → terminal_of w ≡ terminal.Name → is_name w ≡ true
 unfolding terminal_of
-name-of-terminal w h = by (bytes_eq w (codes "int")) (bytes_eq w (codes "void")) (bytes_eq w (codes "return")) (is_name w) (is_number w) h
+name-of-terminal w h = by (bytes_eq w (codes "int")) (bytes_eq w (codes "void")) (bytes_eq w (codes "return")) (bytes_eq w (codes "static")) (bytes_eq w (codes "extern")) (is_name w) (is_number w) h
   where
-    by : (a b c d e : Bool) → (if a then terminal.Int else if b then terminal.Void else if c then terminal.Return else if d then terminal.Name else if e then terminal.Number else punctuator w) ≡ terminal.Name → d ≡ true
-    by true b c d e h = let no : ⊥ = cc in absurd no
-    by false true c d e h = let no : ⊥ = cc in absurd no
-    by false false true d e h = let no : ⊥ = cc in absurd no
-    by false false false true e h = refl
-    by false false false false true h = let no : ⊥ = cc in absurd no
-    by false false false false false h = absurd (punctuator-other w h)
+    by : (a b c s t d e : Bool) → (if a then terminal.Int else if b then terminal.Void else if c then terminal.Return else if s then terminal.Static else if t then terminal.Extern else if d then terminal.Name else if e then terminal.Number else punctuator w) ≡ terminal.Name → d ≡ true
+    by true b c s t d e h = let no : ⊥ = cc in absurd no
+    by false true c s t d e h = let no : ⊥ = cc in absurd no
+    by false false true s t d e h = let no : ⊥ = cc in absurd no
+    by false false false true t d e h = let no : ⊥ = cc in absurd no
+    by false false false false true d e h = let no : ⊥ = cc in absurd no
+    by false false false false false true e h = refl
+    by false false false false false false true h = let no : ⊥ = cc in absurd no
+    by false false false false false false false h = absurd (punctuator-other w h)
 
 int-is-none : is_name (codes "int") ≡ false
 unfolding is_name is_keyword keywords
@@ -58,6 +61,14 @@ return-is-none : is_name (codes "return") ≡ false
 unfolding is_name is_keyword keywords
 return-is-none = refl
 
+static-is-none : is_name (codes "static") ≡ false
+unfolding is_name is_keyword keywords
+static-is-none = refl
+
+extern-is-none : is_name (codes "extern") ≡ false
+unfolding is_name is_keyword keywords
+extern-is-none = refl
+
 other-word : (w k : List ℕ) → is_name w ≡ true → is_name k ≡ false → bytes_eq w k ≡ false
 other-word w k h g =
     elim (bool_cases (bytes_eq w k)) [
@@ -68,7 +79,7 @@ other-word w k h g =
 -- and a name is one in the grammar
 pub terminal-of-name : (w : List ℕ) → is_name w ≡ true → terminal_of w ≡ terminal.Name
 unfolding terminal_of
-terminal-of-name w h = rw (other-word w (codes "int") h int-is-none, other-word w (codes "void") h void-is-none, other-word w (codes "return") h return-is-none, h) refl
+terminal-of-name w h = rw (other-word w (codes "int") h int-is-none, other-word w (codes "void") h void-is-none, other-word w (codes "return") h return-is-none, other-word w (codes "static") h static-is-none, other-word w (codes "extern") h extern-is-none, h) refl
 
 pub word-of-name : (w : List ℕ) → is_name w ≡ true → IsWord w
 unfolding is_name
@@ -85,8 +96,8 @@ abbrev pub IsNameLeaf : Part → Terminal → Type 0
 IsNameLeaf part.Plain t = Unit {0}
 IsNameLeaf part.Opens t = Unit {0}
 IsNameLeaf part.Closes t = Unit {0}
-IsNameLeaf part.DeclaresObject t = t ≡ terminal.Name
-IsNameLeaf part.DeclaresFunction t = t ≡ terminal.Name
+IsNameLeaf (part.DeclaresObject word) t = t ≡ terminal.Name
+IsNameLeaf (part.DeclaresFunction word) t = t ≡ terminal.Name
 IsNameLeaf part.Mentions t = t ≡ terminal.Name
 
 abbrev pub AreNameLeaves : List Leaf → Type 0
@@ -113,11 +124,11 @@ initialiser-names : (init : Option Sum) → AreNameLeaves (initialiser_leaves in
 initialiser-names None = tt
 initialiser-names (Some sum) = (tt, sum-names sum)
 
-object-names : (init : Option Sum) → AreNameLeaves (object_leaves init)
-object-names init = (tt, (refl, leaves-append (initialiser_leaves init) (plain terminal.Semicolon ∷ []) (initialiser-names init) (tt, tt)))
+object-names : (word : Option Storage) (init : Option Sum) → AreNameLeaves (object_leaves word init)
+object-names word init = (tt, (refl, leaves-append (initialiser_leaves init) (plain terminal.Semicolon ∷ []) (initialiser-names init) (tt, tt)))
 
 statement-names : (s : Statement) → AreNameLeaves (statement_leaves s)
-statement-names (local init) = object-names init
+statement-names (local init) = object-names None init
 statement-names (returns sum) = (tt, leaves-append (sum_leaves sum) (plain terminal.Semicolon ∷ []) (sum-names sum) (tt, tt))
 statement-names (evaluates sum) = leaves-append (sum_leaves sum) (plain terminal.Semicolon ∷ []) (sum-names sum) (tt, tt)
 
@@ -125,10 +136,18 @@ statements-names : (ss : List Statement) → AreNameLeaves (flat_map statement_l
 statements-names [] = tt
 statements-names (s ∷ ss) = leaves-append (statement_leaves s) (flat_map statement_leaves ss) (statement-names s) (statements-names ss)
 
+declaration-names : (word : Option Storage) (d : Declaration) → AreNameLeaves (declaration_leaves word d)
+declaration-names word (object init) = object-names word init
+declaration-names word prototype = (tt, (refl, (tt, (tt, (tt, (tt, tt))))))
+declaration-names word (definition ss) = (tt, (refl, (tt, (tt, (tt, (tt, leaves-append (flat_map statement_leaves ss) (closing ∷ []) (statements-names ss) (tt, tt)))))))
+
+word-names : (word : Option Storage) → AreNameLeaves (word_leaves word)
+word-names None = tt
+word-names (Some storage.Static) = (tt, tt)
+word-names (Some storage.Extern) = (tt, tt)
+
 external-names : (e : External) → AreNameLeaves (external_leaves e)
-external-names (object init) = object-names init
-external-names prototype = (tt, (refl, (tt, (tt, (tt, (tt, tt))))))
-external-names (definition ss) = (tt, (refl, (tt, (tt, (tt, (tt, leaves-append (flat_map statement_leaves ss) (closing ∷ []) (statements-names ss) (tt, tt)))))))
+external-names e = leaves-append (word_leaves e.word) (declaration_leaves e.word e.declaration) (word-names e.word) (declaration-names e.word e.declaration)
 
 tree-names : (tree : List External) → AreNameLeaves (leaves tree)
 tree-names [] = tt
@@ -148,12 +167,12 @@ bound-name : (b : Bindings) (n : ℕ) (t : Token) (p : Part) (e : Bound) → IsN
 bound-name b n t part.Plain e l h = let same : None ≡ e.denotes = cc in subst (NameIf t) same tt
 bound-name b n t part.Opens e l h = let same : None ≡ e.denotes = cc in subst (NameIf t) same tt
 bound-name b n t part.Closes e l h = let same : None ≡ e.denotes = cc in subst (NameIf t) same tt
-bound-name b n t part.DeclaresObject e l h = any e.denotes l
+bound-name b n t (part.DeclaresObject word) e l h = any e.denotes l
   where
     any : (d : Option Denotation) → terminal_of t.text ≡ terminal.Name → NameIf t d
     any None l = tt
     any (Some d) l = l
-bound-name b n t part.DeclaresFunction e l h = any e.denotes l
+bound-name b n t (part.DeclaresFunction word) e l h = any e.denotes l
   where
     any : (d : Option Denotation) → terminal_of t.text ≡ terminal.Name → NameIf t d
     any None l = tt
@@ -188,17 +207,3 @@ names-at (t ∷ ts) (l ∷ ls) n b (d ∷ ds) e names h =
 
 pub well-named : (ts : List Token) (tree : List External) (ds : List (Option Denotation)) → IsWellFormed ts tree ds → NamesAt ts ds
 well-named ts tree ds w = names-at ts (leaves tree) 0 file_scope ds w.0 (tree-names tree) w.1
-
--- what stands at an offset is a name
-pub target-name : (ts : List Token) (ds : List (Option Denotation)) (offset : ℕ) (target : Target) → NamesAt ts ds → target_at offset (zip ts ds) ≡ Some target → is_name target.name ≡ true
-target-name [] ds offset target names h = let no : ⊥ = cc in absurd no
-target-name (t ∷ ts) [] offset target names h = let no : ⊥ = cc in absurd no
-target-name (t ∷ ts) (d ∷ ds) offset target names h = by (covers offset t) h (target-name ts ds offset target names.1)
-  where
-    at : (d : Option Denotation) → NameIf t d → target_of t d ≡ Some target → is_name target.name ≡ true
-    at None n g = let no : ⊥ = cc in absurd no
-    at (Some d) n g = let same : (record { name = t.text; entity = d.token }) ≡ target = cc in subst (λ x. is_name x.name ≡ true) same (name-of-terminal t.text n)
-
-    by : (b : Bool) → (if b then target_of t d else target_at offset (zip ts ds)) ≡ Some target → (target_at offset (zip ts ds) ≡ Some target → is_name target.name ≡ true) → is_name target.name ≡ true
-    by true g rest = at d names.0 g
-    by false g rest = rest g

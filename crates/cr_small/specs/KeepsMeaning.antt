@@ -1,14 +1,12 @@
 -- What it means that a rename keeps the meaning of a text: the edited text has the same tokens but for the name,
 -- the same tree, and each token denotes what it denoted.
-use Rattle.std.specs.Prelude.{ℕ, ◌≡◌, ◌↔◌, Bool, true, false, List, length, map, slice_get, Option, Some, if◌then◌else◌, ◌==◌}
-use Rattle.std.specs.List.{list_any, zip}
-use Rattle.std.specs.Option.{option_map}
-use Rattle.cr_base.specs.Substitution.{shifted, substituted}
-use Rattle.cr_small.specs.Tokens.{Token, cut}
-use Rattle.cr_small.specs.Terminals.{is_name}
+use Rattle.std.specs.Prelude.{ℕ, ◌≡◌, ◌↔◌, Bool, true, List, length, map, slice_get, Option, Some, if◌then◌else◌, ◌==◌}
+use Rattle.std.specs.List.{list_any}
+use Rattle.cr_base.specs.Substitution.{shifted}
+use Rattle.cr_small.specs.Tokens.{Token}
 use Rattle.cr_small.specs.Tree.{External}
-use Rattle.cr_small.specs.SmallForm.{IsSmallForm, IsWellFormed}
-use Rattle.cr_small.specs.Renaming.{Target, target_at, places_of, has_text}
+use Rattle.cr_small.specs.SmallForm.{IsWellFormed}
+use Rattle.cr_small.specs.Keys.{Key, key_of}
 use Rattle.cr_small.specs.declared.binder.Denotation.{Denotation}
 
 -- the offset is one of the places
@@ -21,20 +19,6 @@ renamed_token places old new t = record {
   offset = shifted places (length old) (length new) t.offset;
   text = if is_place places t.offset then new else t.text;
 }
-
--- The key of an entity: its name where it has external linkage, and else the place of its first declaring token
--- (C11 6.2.2; by our own rule the same for all translation units).
-pub data Key : Type 0 where
-  external : List ℕ → Key
-  at : ℕ → Key
-
-abbrev pub key_of_token : Bool → Token → Key
-key_of_token true t = external t.text
-key_of_token false t = at t.offset
-
--- the key of what a token denotes
-abbrev pub key_of : List Token → Denotation → Option Key
-key_of tokens d = option_map (key_of_token d.external) (slice_get tokens d.token)
 
 -- two tokens denote entities of one key
 abbrev pub AreLinked : List Token → List (Option Denotation) → ℕ → ℕ → Type 0
@@ -55,12 +39,3 @@ pub record KeepsMeaning (before after : List Token) (places old new : List ℕ) 
   pub is_well_formed : IsWellFormed after tree denotes
   -- two tokens are linked just where they were
   pub links : (i j : ℕ) → AreLinked before denotes i j ↔ AreLinked after denotes i j
-
--- In a text of the small form, what stands at an offset can be renamed to a name that is none of the text's tokens:
--- the text with the new name at the places of its entity keeps the meaning.
-abbrev pub RenamingKeepsMeaning : Type 0
-RenamingKeepsMeaning =
-    (bytes new : List ℕ) (denotes : List (Option Denotation)) (offset : ℕ) (target : Target) → IsSmallForm (cut 0 bytes) denotes
-    → target_at offset (zip (cut 0 bytes) denotes) ≡ Some target → is_name new ≡ true → has_text new (cut 0 bytes) ≡ false
-    → let places = places_of target.entity (zip (cut 0 bytes) denotes) in
-    KeepsMeaning (cut 0 bytes) (cut 0 (substituted places (length target.name) new bytes)) places target.name new

@@ -5,8 +5,10 @@ pub mod Derivation
 pub mod Declarations
 pub mod Resolution
 pub mod SmallForm
+pub mod Keys
 pub mod Renaming
 pub mod KeepsMeaning
+pub mod Laws
 pub mod Machine
 pub mod Holding
 pub mod Seen

@@ -6,6 +6,8 @@ use Rattle.cr_small.specs.Terminals.{terminal_of}
 use Rattle.cr_small.specs.Tree.{Leaf}
 use Rattle.cr_small.specs.declared.terminal.Terminal.{Terminal}
 use Rattle.cr_small.specs.declared.terminal.Terminal.TheVariants as terminal
+use Rattle.cr_small.specs.declared.grammar.Storage.{Storage}
+use Rattle.cr_small.specs.declared.grammar.Storage.TheVariants as storage
 use Rattle.cr_small.specs.declared.grammar.Part.TheVariants as part
 use Rattle.cr_small.specs.declared.grammar.Level.{Level}
 use Rattle.cr_small.specs.declared.grammar.Level.TheVariants as level
@@ -22,22 +24,25 @@ item l terminal.Name calls = Some (record { part = part.Mentions; next = if call
 item l _ calls = None
 
 abbrev pub start : Level → Terminal → Bool → Option Move
-start level.File terminal.Int calls = Some (plain (state.Declarator level.File))
+start level.File terminal.Static calls = Some (plain (state.Stored storage.Static))
+start level.File terminal.Extern calls = Some (plain (state.Stored storage.Extern))
+start level.File terminal.Int calls = Some (plain (state.Declarator level.File None))
 start level.File _ calls = None
-start level.Block terminal.Int calls = Some (plain (state.Declarator level.Block))
+start level.Block terminal.Int calls = Some (plain (state.Declarator level.Block None))
 start level.Block terminal.Return calls = Some (plain (state.Item level.Block))
 start level.Block terminal.End calls = Some (record { part = part.Closes; next = state.Start level.File })
 start level.Block t calls = item level.Block t calls
 
-abbrev pub declarator : Level → Bool → Move
-declarator level.File true = record { part = part.DeclaresFunction; next = state.ParametersOpen }
-declarator level.File false = record { part = part.DeclaresObject; next = state.Initialiser level.File }
-declarator level.Block calls = record { part = part.DeclaresObject; next = state.Initialiser level.Block }
+abbrev pub declarator : Level → Option Storage → Bool → Move
+declarator level.File word true = record { part = part.DeclaresFunction word; next = state.ParametersOpen }
+declarator level.File word false = record { part = part.DeclaresObject word; next = state.Initialiser level.File }
+declarator level.Block word calls = record { part = part.DeclaresObject word; next = state.Initialiser level.Block }
 
 -- one token of a derivation; `calls` says that an open parenthesis is next
 abbrev pub step : State → Terminal → Bool → Option Move
 step (state.Start l) t calls = start l t calls
-step (state.Declarator l) terminal.Name calls = Some (declarator l calls)
+step (state.Stored word) terminal.Int calls = Some (plain (state.Declarator level.File (Some word)))
+step (state.Declarator l word) terminal.Name calls = Some (declarator l word calls)
 step (state.Initialiser l) terminal.Assign calls = Some (plain (state.Item l))
 step (state.Initialiser l) terminal.Semicolon calls = Some (plain (state.Start l))
 step (state.Item l) t calls = item l t calls

@@ -1,9 +1,9 @@
 -- A rename in a text of the small form: what stands at an offset, and where its entity stands.
-use Rattle.std.specs.Prelude.{ℕ, ◌≡◌, ◌+◌, ◌<◌, Bool, false, ◌&&◌, List, [], ◌∷◌, length, map, Option, Some, None, if◌then◌else◌, ◌==◌, nat_le, nat_lt, bytes_eq}
+use Rattle.std.specs.Prelude.{ℕ, ◌+◌, Bool, false, ◌&&◌, List, [], ◌∷◌, length, map, Option, Some, None, if◌then◌else◌, nat_le, nat_lt, bytes_eq}
 use Rattle.std.specs.List.{list_any, filter, zip}
-use Rattle.cr_base.specs.Substitution.{Rise}
-use Rattle.cr_small.specs.Tokens.{Token, cut}
-use Rattle.cr_small.specs.SmallForm.{IsSmallForm}
+use Rattle.std.specs.Option.{option_map}
+use Rattle.cr_small.specs.Tokens.{Token}
+use Rattle.cr_small.specs.Keys.{Key, key_of, is_key}
 use Rattle.cr_small.specs.declared.binder.Denotation.{Denotation}
 
 -- some token is spelled so
@@ -14,37 +14,36 @@ has_text text tokens = list_any (λ t. bytes_eq t.text text) tokens
 abbrev pub covers : ℕ → Token → Bool
 covers offset token = nat_le token.offset offset && nat_lt offset (token.offset + length token.text)
 
--- what stands at an offset: a name, and the first declaring token of the entity that it denotes
+-- what stands at an offset: a name, the key of the entity that it denotes, and whether that is declared at file scope
 pub record Target : Type 0 where
   pub name : List ℕ
-  pub entity : ℕ
+  pub key : Key
+  pub at_file_scope : Bool
 
-abbrev pub target_of : Token → Option Denotation → Option Target
-target_of token None = None
-target_of token (Some d) = Some (record { name = token.text; entity = d.token })
+abbrev pub target_of : List Token → Token → Option Denotation → Option Target
+target_of tokens token None = None
+target_of tokens token (Some d) = option_map (λ key. record { name = token.text; key = key; at_file_scope = d.linked }) (key_of tokens d)
+
+abbrev pub target_among : List Token → ℕ → List (Token × Option Denotation) → Option Target
+target_among tokens offset [] = None
+target_among tokens offset (one ∷ rest) = if covers offset one.0 then target_of tokens one.0 one.1 else target_among tokens offset rest
 
 -- what stands at an offset of the text, if it is a name
-abbrev pub target_at : ℕ → List (Token × Option Denotation) → Option Target
-target_at offset [] = None
-target_at offset (one ∷ rest) = if covers offset one.0 then target_of one.0 one.1 else target_at offset rest
+abbrev pub target_at : ℕ → List Token → List (Option Denotation) → Option Target
+target_at offset tokens denotes = target_among tokens offset (zip tokens denotes)
 
-abbrev pub denotes_entity : ℕ → Option Denotation → Bool
-denotes_entity entity None = false
-denotes_entity entity (Some d) = d.token == entity
+abbrev pub has_key : Key → Option Key → Bool
+has_key key None = false
+has_key key (Some other) = is_key key other
 
--- the offsets of the tokens that denote an entity
-abbrev pub places_of : ℕ → List (Token × Option Denotation) → List ℕ
-places_of entity tokens = map (λ one. one.0.offset) (filter (λ one. denotes_entity entity one.1) tokens)
+-- a token that denotes this denotes an entity of this key
+abbrev pub denotes_key : List Token → Key → Option Denotation → Bool
+denotes_key tokens key None = false
+denotes_key tokens key (Some d) = has_key key (key_of tokens d)
 
--- The places of what stands at an offset rise, each by the length of its name at least, up to the end of the text.
-abbrev pub PlacesRise : Type 0
-PlacesRise =
-    (bytes : List ℕ) (denotes : List (Option Denotation)) (offset : ℕ) (target : Target) → IsSmallForm (cut 0 bytes) denotes
-    → target_at offset (zip (cut 0 bytes) denotes) ≡ Some target
-    → Rise 0 (places_of target.entity (zip (cut 0 bytes) denotes)) (length target.name) (length bytes)
+abbrev pub places_among : List Token → Key → List (Token × Option Denotation) → List ℕ
+places_among tokens key pairs = map (λ one. one.0.offset) (filter (λ one. denotes_key tokens key one.1) pairs)
 
--- and there is one at least
-abbrev pub HasPlace : Type 0
-HasPlace =
-    (tokens : List (Token × Option Denotation)) (offset : ℕ) (target : Target) → target_at offset tokens ≡ Some target
-    → 0 < length (places_of target.entity tokens)
+-- the offsets of the tokens that denote an entity of this key
+abbrev pub places_of : Key → List Token → List (Option Denotation) → List ℕ
+places_of key tokens denotes = places_among tokens key (zip tokens denotes)

@@ -1,10 +1,11 @@
 -- What each token of a text denotes: one walk over the tokens that meets declarations and mentions in order.
-use Rattle.std.specs.Prelude.{ℕ, ◌+◌, Bool, true, false, List, [], ◌∷◌, ◌++◌, Option, Some, None, if◌then◌else◌}
+use Rattle.std.specs.Prelude.{ℕ, ◌+◌, Bool, true, false, ◌&&◌, List, [], ◌∷◌, ◌++◌, Option, Some, None, if◌then◌else◌}
 use Rattle.std.specs.Option.{option_map, option_and_then}
 use Rattle.std.specs.List.{zip}
 use Rattle.cr_small.specs.Tokens.{Token}
 use Rattle.cr_small.specs.Tree.{External, parts}
-use Rattle.cr_small.specs.Declarations.{Entry, lookup, entity_of, is_redeclared}
+use Rattle.cr_small.specs.Declarations.{Entry, lookup, is_internal, is_seen_internal, entity_of, is_redeclared}
+use Rattle.cr_small.specs.declared.grammar.Storage.{Storage}
 use Rattle.cr_small.specs.declared.grammar.Part.{Part}
 use Rattle.cr_small.specs.declared.grammar.Part.TheVariants as part
 use Rattle.cr_small.specs.declared.binder.Denotation.{Denotation}
@@ -34,14 +35,22 @@ around (scope ∷ rest) = rest
 
 -- the entity of an entry
 abbrev pub denotation : List Entry → Entry → Denotation
-denotation entries entry = record { token = entity_of entries entry; external = entry.external }
+denotation entries entry = record { token = entity_of entries entry; linked = entry.linked; internal = entry.internal }
 
 abbrev pub unchanged : Bindings → Option Bound
 unchanged b = Some (record { after = b; denotes = None })
 
--- A declaration takes the present scope. It has external linkage at file scope, and none inside braces (C11 6.2.2p5, p6).
-abbrev pub entry_at : Bindings → Bool → List ℕ → ℕ → Entry
-entry_at b function name token = record { path = b.path; name = name; token = token; function = function; external = is_file_scope b.path }
+-- A declaration takes the present scope. It has linkage at file scope, where the visible declaration of its name has
+-- one too, and none inside braces (C11 6.2.2p5, p6).
+abbrev pub entry_at : Bindings → Bool → Option Storage → List ℕ → ℕ → Entry
+entry_at b function word name token = record {
+  path = b.path;
+  name = name;
+  token = token;
+  function = function;
+  linked = is_file_scope b.path;
+  internal = is_file_scope b.path && is_internal function (is_seen_internal (lookup b.entries name b.path)) word;
+}
 
 abbrev pub declared : Bindings → Entry → Option Bound
 declared b entry =
@@ -61,8 +70,8 @@ abbrev pub bound : Bindings → ℕ → List ℕ → Part → Option Bound
 bound b token name part.Plain = unchanged b
 bound b token name part.Opens = unchanged (record { entries = b.entries; path = b.next ∷ b.path; next = b.next + 1 })
 bound b token name part.Closes = unchanged (record { entries = b.entries; path = around b.path; next = b.next })
-bound b token name part.DeclaresObject = declared b (entry_at b false name token)
-bound b token name part.DeclaresFunction = declared b (entry_at b true name token)
+bound b token name (part.DeclaresObject word) = declared b (entry_at b false word name token)
+bound b token name (part.DeclaresFunction word) = declared b (entry_at b true word name token)
 bound b token name part.Mentions = mentioned b (lookup b.entries name b.path)
 
 -- what each token from this number on denotes, or nothing where a name is undeclared or redeclared

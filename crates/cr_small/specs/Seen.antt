@@ -2,10 +2,17 @@
 use Rattle.cr_small.specs.Tokens as tokens
 use Rattle.cr_small.specs.Renaming as renaming
 use Rattle.cr_small.specs.declared.token.Token.{Token}
+use Rattle.cr_small.specs.Keys as keys
+use Rattle.cr_small.specs.declared.renaming.EntityKey.{EntityKey}
+use Rattle.cr_small.specs.declared.renaming.EntityKey.TheVariants as key
 use Rattle.cr_small.specs.declared.renaming.Target.{Target}
 
 abbrev pub token_of : Token → tokens.Token
 token_of t = record { offset = t.offset; text = t.text.now }
 
+abbrev pub key_of_code : EntityKey → keys.Key
+key_of_code (key.External name) = keys.external name.now
+key_of_code (key.At offset) = keys.at offset
+
 abbrev pub target_of_code : Target → renaming.Target
-target_of_code t = record { name = t.name.now; entity = t.entity }
+target_of_code t = record { name = t.name.now; key = key_of_code t.key; at_file_scope = t.at_file_scope }

@@ -35,6 +35,8 @@ terminal_of text =
     if bytes_eq text (codes "int") then terminal.Int
     else if bytes_eq text (codes "void") then terminal.Void
     else if bytes_eq text (codes "return") then terminal.Return
+    else if bytes_eq text (codes "static") then terminal.Static
+    else if bytes_eq text (codes "extern") then terminal.Extern
     else if is_name text then terminal.Name
     else if is_number text then terminal.Number
     else punctuator text

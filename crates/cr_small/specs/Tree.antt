@@ -1,5 +1,5 @@
 -- The grammar of the small form, as trees and the terminals that they derive:
---   Small    = { Object | Function }
+--   Small    = { [ 'static' | 'extern' ] ( Object | Function ) }
 --   Object   = 'int' id [ '=' Sum ] ';'
 --   Function = 'int' id '(' 'void' ')' ( ';' | '{' { Object | 'return' Sum ';' | Sum ';' } '}' )
 --   Sum      = Item { '+' Item }
@@ -10,6 +10,8 @@ use Rattle.cr_small.specs.Tokens.{Token}
 use Rattle.cr_small.specs.Terminals.{terminal_of}
 use Rattle.cr_small.specs.declared.terminal.Terminal.{Terminal}
 use Rattle.cr_small.specs.declared.terminal.Terminal.TheVariants as terminal
+use Rattle.cr_small.specs.declared.grammar.Storage.{Storage}
+use Rattle.cr_small.specs.declared.grammar.Storage.TheVariants as storage
 use Rattle.cr_small.specs.declared.grammar.Part.{Part}
 use Rattle.cr_small.specs.declared.grammar.Part.TheVariants as part
 
@@ -31,10 +33,15 @@ pub data Statement : Type 0 where
   evaluates : Sum → Statement
 
 -- an object at file scope with its initialiser, or a function without or with a body
-pub data External : Type 0 where
-  object : Option Sum → External
-  prototype : External
-  definition : List Statement → External
+pub data Declaration : Type 0 where
+  object : Option Sum → Declaration
+  prototype : Declaration
+  definition : List Statement → Declaration
+
+-- a declaration at file scope with its storage word, if it has one
+pub record External : Type 0 where
+  pub word : Option Storage
+  pub declaration : Declaration
 
 -- a leaf of a tree: a terminal, and what its token does
 pub record Leaf : Type 0 where
@@ -64,19 +71,20 @@ abbrev pub initialiser_leaves : Option Sum → List Leaf
 initialiser_leaves None = []
 initialiser_leaves (Some sum) = plain terminal.Assign ∷ sum_leaves sum
 
-abbrev pub object_leaves : Option Sum → List Leaf
-object_leaves init =
-    plain terminal.Int ∷ name_that part.DeclaresObject ∷ initialiser_leaves init ++ plain terminal.Semicolon ∷ []
+-- the name of an object is declared with the storage word in front of it
+abbrev pub object_leaves : Option Storage → Option Sum → List Leaf
+object_leaves word init =
+    plain terminal.Int ∷ name_that (part.DeclaresObject word) ∷ initialiser_leaves init ++ plain terminal.Semicolon ∷ []
 
 abbrev pub statement_leaves : Statement → List Leaf
-statement_leaves (local init) = object_leaves init
+statement_leaves (local init) = object_leaves None init
 statement_leaves (returns sum) = plain terminal.Return ∷ sum_leaves sum ++ plain terminal.Semicolon ∷ []
 statement_leaves (evaluates sum) = sum_leaves sum ++ plain terminal.Semicolon ∷ []
 
--- 'int' id '(' 'void' ')'
-abbrev pub function_leaves : List Leaf
-function_leaves =
-    plain terminal.Int ∷ name_that part.DeclaresFunction ∷ plain terminal.Open ∷ plain terminal.Void ∷ plain terminal.Close ∷ []
+-- 'int' id '(' 'void' ')', whose name is declared so too
+abbrev pub function_leaves : Option Storage → List Leaf
+function_leaves word =
+    plain terminal.Int ∷ name_that (part.DeclaresFunction word) ∷ plain terminal.Open ∷ plain terminal.Void ∷ plain terminal.Close ∷ []
 
 -- the braces of a body, which open and close its scope
 abbrev pub opening : Leaf
@@ -85,10 +93,19 @@ opening = record { terminal = terminal.Begin; part = part.Opens }
 abbrev pub closing : Leaf
 closing = record { terminal = terminal.End; part = part.Closes }
 
+abbrev pub declaration_leaves : Option Storage → Declaration → List Leaf
+declaration_leaves word (object init) = object_leaves word init
+declaration_leaves word prototype = function_leaves word ++ plain terminal.Semicolon ∷ []
+declaration_leaves word (definition statements) = function_leaves word ++ opening ∷ flat_map statement_leaves statements ++ closing ∷ []
+
+-- `static` or `extern`
+abbrev pub word_leaves : Option Storage → List Leaf
+word_leaves None = []
+word_leaves (Some storage.Static) = plain terminal.Static ∷ []
+word_leaves (Some storage.Extern) = plain terminal.Extern ∷ []
+
 abbrev pub external_leaves : External → List Leaf
-external_leaves (object init) = object_leaves init
-external_leaves prototype = function_leaves ++ plain terminal.Semicolon ∷ []
-external_leaves (definition statements) = function_leaves ++ opening ∷ flat_map statement_leaves statements ++ closing ∷ []
+external_leaves external = word_leaves external.word ++ declaration_leaves external.word external.declaration
 
 -- the leaves of a whole tree, from left to right
 abbrev pub leaves : List External → List Leaf

@@ -14,12 +14,13 @@ use crate::token::Token;
 use cr_base::OutOfMemory;
 use std::alloc::Global;
 
-/// The entity that a token denotes: the number of its first declaring token, and whether it has
-/// external linkage (C11 6.2.2).
+/// The entity that a token denotes: the number of its first declaring token, whether it has linkage,
+/// and whether that is internal, and else external (C11 6.2.2).
 #[derive(Clone, Copy, Debug, PartialEq, Eq)]
 pub struct Denotation {
     pub token: usize,
-    pub external: bool,
+    pub linked: bool,
+    pub internal: bool,
 }
 
 /// The entity that one token denotes, if it is an identifier that denotes one.

@@ -11,14 +11,21 @@ use crate::token::Token;
 use cr_base::OutOfMemory;
 use std::alloc::Global;
 
-/// What a token does in a derivation.
+/// The storage word of a declaration.
+#[derive(Clone, Copy)]
+pub enum Storage {
+    Static,
+    Extern,
+}
+
+/// What a token does in a derivation. A declaration does it with its storage word, if it has one.
 #[derive(Clone, Copy)]
 pub enum Part {
     Plain,
     Opens,
     Closes,
-    DeclaresObject,
-    DeclaresFunction,
+    DeclaresObject(Option<Storage>),
+    DeclaresFunction(Option<Storage>),
     Mentions,
 }
 
@@ -33,7 +40,8 @@ pub enum Level {
 #[derive(Clone, Copy)]
 pub enum State {
     Start(Level),
-    Declarator(Level),
+    Stored(Storage),
+    Declarator(Level, Option<Storage>),
     Initialiser(Level),
     Item(Level),
     CallOpen(Level),
@@ -65,7 +73,9 @@ fn start(level: Level, terminal: Terminal, calls: bool) -> Option<Move>
     ensures { result ≡ machine.start level terminal calls }
 {
     match (level, terminal) {
-        (_, Terminal::Int) => plain(State::Declarator(level)),
+        (Level::File, Terminal::Static) => plain(State::Stored(Storage::Static)),
+        (Level::File, Terminal::Extern) => plain(State::Stored(Storage::Extern)),
+        (_, Terminal::Int) => plain(State::Declarator(level, None)),
         (Level::Block, Terminal::Return) => plain(State::Item(level)),
         (Level::Block, Terminal::End) => Some(Move {
             part: Part::Closes,
@@ -76,16 +86,16 @@ fn start(level: Level, terminal: Terminal, calls: bool) -> Option<Move>
     }
 }
 
-fn declarator(level: Level, calls: bool) -> Move
-    ensures { result ≡ machine.declarator level calls }
+fn declarator(level: Level, word: Option<Storage>, calls: bool) -> Move
+    ensures { result ≡ machine.declarator level word calls }
 {
     match (level, calls) {
         (Level::File, true) => Move {
-            part: Part::DeclaresFunction,
+            part: Part::DeclaresFunction(word),
             next: State::ParametersOpen,
         },
         _ => Move {
-            part: Part::DeclaresObject,
+            part: Part::DeclaresObject(word),
             next: State::Initialiser(level),
         },
     }
@@ -114,7 +124,8 @@ fn step(state: State, terminal: Terminal, calls: bool) -> Option<Move>
 {
     match (state, terminal) {
         (State::Start(level), _) => start(level, terminal, calls),
-        (State::Declarator(level), Terminal::Name) => Some(declarator(level, calls)),
+        (State::Stored(word), Terminal::Int) => plain(State::Declarator(Level::File, Some(word))),
+        (State::Declarator(level, word), Terminal::Name) => Some(declarator(level, word, calls)),
         (State::Initialiser(level), Terminal::Assign) => plain(State::Item(level)),
         (State::Initialiser(level), Terminal::Semicolon) => plain(State::Start(level)),
         (State::Item(level), _) => item(level, terminal, calls),

@@ -7,14 +7,14 @@ mod laws;
 mod renaming;
 mod scopes;
 mod terminal;
+#[cfg(test)]
+mod tests;
 mod token;
 
 pub use binder::{Denotation, resolve};
 pub use laws::{
-    a_target_has_a_place, denotations_are_one, places_rise, renaming_keeps_the_meaning,
+    a_target_has_a_place, a_target_names_its_key, denotations_are_one, every_text_is_decided,
+    keys_move, places_rise, renaming_keeps_the_meaning,
 };
-pub use renaming::{Target, has_text, places_of, target_at};
+pub use renaming::{EntityKey, Target, has_text, places_of, target_at};
 pub use token::{Token, cut};
-
-#[cfg(test)]
-mod tests;

@@ -1,20 +1,23 @@
 //! The declarations that a name can mean.
-ghost use Rattle.std.specs.Prelude.{◌≡◌, ◌∷◌, ◌+◌, true, false, Some, None, IfOk, OnOk, if◌then◌else◌};
+ghost use Rattle.std.specs.Prelude.{◌≡◌, ◌∷◌, ◌+◌, true, false, Option, Some, None, IfOk, OnOk, if◌then◌else◌};
 ghost use Rattle.cr_small.specs.Resolution.{Bindings, file_scope, around, bound, declared, mentioned, entry_at};
-ghost use Rattle.cr_small.specs.Declarations.{lookup};
-ghost use Rattle.cr_small.specs.Holding.{Answers, Holds, MayStand, level_behind, answer, external_answer, again_answer, symbol_in};
+ghost use Rattle.cr_small.specs.declared.grammar.Storage.{Storage};
+ghost use Rattle.cr_small.specs.Declarations.{lookup, is_internal};
+ghost use Rattle.cr_small.specs.Holding.{Answers, Holds, MayStand, level_behind, answer, linked_answer, again_answer, is_internal_symbol, symbol_in};
 
 use crate::binder::{Binding, Denotation};
-use crate::grammar::Part;
+use crate::grammar::{Part, Storage};
 use cr_base::OutOfMemory;
 use indexmap::IndexMap;
 use std::alloc::Global;
 
-/// A declared name: whether it is a function, and the number of its first declaring token.
+/// A declared name: whether it is a function, the number of its first declaring token, and whether it has
+/// internal linkage.
 #[derive(Clone, Copy)]
 pub struct Symbol {
     pub function: bool,
     pub token: usize,
+    pub internal: bool,
 }
 
 /// The names of file scope, and those of the body that is open.
@@ -25,11 +28,15 @@ pub struct Scopes<'a> {
     pub in_body: bool,
 }
 
-fn answer(token: usize, external: bool) -> Binding
-    ensures { result ≡ answer token external }
+fn answer(symbol: Symbol, linked: bool) -> Binding
+    ensures { result ≡ answer symbol linked }
 {
     Binding {
-        denotes: Some(Denotation { token, external }),
+        denotes: Some(Denotation {
+            token: symbol.token,
+            linked,
+            internal: symbol.internal,
+        }),
     }
 }
 
@@ -40,13 +47,34 @@ fn symbol_in(map: &IndexMap<&[u8], Symbol>, name: &[u8]) -> Option<Symbol>
 }
 
 // One more declaration at file scope of a name that was declared there.
-fn again(first: Symbol, function: bool) -> Option<Binding>
-    ensures { result ≡ again_answer first function }
+fn again(first: Symbol, function: bool, internal: bool) -> Option<Binding>
+    ensures { result ≡ again_answer first function internal }
 {
-    if first.function == function {
-        Some(answer(first.token, true))
+    if first.function == function && first.internal == internal {
+        Some(answer(first, true))
     } else {
         None
+    }
+}
+
+// Whether the linkage of the name that is seen is internal; without one it is external.
+fn is_internal_symbol(seen: Option<Symbol>) -> bool
+    ensures { result ≡ is_internal_symbol seen }
+{
+    match seen {
+        Some(symbol) => symbol.internal,
+        None => false,
+    }
+}
+
+// Whether a declaration at file scope has internal linkage, where `seen` says that of its name so far.
+fn is_internal(function: bool, seen: bool, word: Option<Storage>) -> bool
+    ensures { result ≡ is_internal function seen word }
+{
+    match word {
+        Some(Storage::Static) => true,
+        Some(Storage::Extern) => seen,
+        None => function && seen,
     }
 }
 
@@ -82,18 +110,20 @@ impl<'a> Scopes<'a> {
         &mut self,
         name: &'a [u8],
         function: bool,
+        word: Option<Storage>,
         token: usize,
     ) -> Result<Option<Binding>, OutOfMemory>
-        ensures declared { IfOk result (λ answer. (b : Bindings) → Holds self.old b → Answers self.new (declared b (entry_at b function name.now token)) answer) }
+        ensures declared { IfOk result (λ answer. (b : Bindings) → Holds self.old b → Answers self.new (declared b (entry_at b function word name.now token)) answer) }
         ensures level { OnOk result (self.new.in_body ≡ self.old.in_body) }
     {
         if self.in_body {
             self.declare_in_body(name, function, token)
         } else {
-            self.declare_in_file(name, function, token)
+            self.declare_in_file(name, function, word, token)
         }
     }
 
+    // Inside braces the storage word says nothing of the linkage.
     fn declare_in_body(
         &mut self,
         name: &'a [u8],
@@ -101,31 +131,44 @@ impl<'a> Scopes<'a> {
         token: usize,
     ) -> Result<Option<Binding>, OutOfMemory>
         requires { self.old.in_body ≡ true }
-        ensures declared { IfOk result (λ answer. (b : Bindings) → Holds self.old b → Answers self.new (declared b (entry_at b function name.now token)) answer) }
+        ensures declared { (word : Option Storage) → IfOk result (λ answer. (b : Bindings) → Holds self.old b → Answers self.new (declared b (entry_at b function word name.now token)) answer) }
         ensures level { OnOk result (self.new.in_body ≡ true) }
     {
         if symbol_in(&self.body, name).is_some() {
             return Ok(None);
         }
-        self.body.insert(name, Symbol { function, token })?;
-        Ok(Some(answer(token, false)))
+        let symbol = Symbol {
+            function,
+            token,
+            internal: false,
+        };
+        self.body.insert(name, symbol)?;
+        Ok(Some(answer(symbol, false)))
     }
 
     fn declare_in_file(
         &mut self,
         name: &'a [u8],
         function: bool,
+        word: Option<Storage>,
         token: usize,
     ) -> Result<Option<Binding>, OutOfMemory>
         requires { self.old.in_body ≡ false }
-        ensures declared { IfOk result (λ answer. (b : Bindings) → Holds self.old b → Answers self.new (declared b (entry_at b function name.now token)) answer) }
+        ensures declared { IfOk result (λ answer. (b : Bindings) → Holds self.old b → Answers self.new (declared b (entry_at b function word name.now token)) answer) }
         ensures level { OnOk result (self.new.in_body ≡ false) }
     {
-        match symbol_in(&self.file, name) {
-            Some(first) => Ok(again(first, function)),
+        let seen = symbol_in(&self.file, name);
+        let internal = is_internal(function, is_internal_symbol(seen), word);
+        match seen {
+            Some(first) => Ok(again(first, function, internal)),
             None => {
-                self.file.insert(name, Symbol { function, token })?;
-                Ok(Some(answer(token, true)))
+                let symbol = Symbol {
+                    function,
+                    token,
+                    internal,
+                };
+                self.file.insert(name, symbol)?;
+                Ok(Some(answer(symbol, true)))
             }
         }
     }
@@ -142,17 +185,17 @@ impl<'a> Scopes<'a> {
     }
 
     fn mention_file(&self, name: &[u8]) -> Option<Binding>
-        ensures { result ≡ external_answer (symbol_in name.now self.now.file.entries) }
+        ensures { result ≡ linked_answer (symbol_in name.now self.now.file.entries) }
     {
         let symbol = symbol_in(&self.file, name)?;
-        Some(answer(symbol.token, true))
+        Some(answer(symbol, true))
     }
 
     fn mention(&self, name: &[u8]) -> Option<Binding>
         ensures { (b : Bindings) → Holds self.now b → Answers self.now (mentioned b (lookup b.entries name.now b.path)) result }
     {
         match self.in_open_body(name) {
-            Some(symbol) => Some(answer(symbol.token, false)),
+            Some(symbol) => Some(answer(symbol, false)),
             None => self.mention_file(name),
         }
     }
@@ -178,8 +221,8 @@ impl<'a> Scopes<'a> {
                 self.close();
                 Ok(Some(Binding { denotes: None }))
             }
-            Part::DeclaresObject => self.declare(name, false, token),
-            Part::DeclaresFunction => self.declare(name, true, token),
+            Part::DeclaresObject(word) => self.declare(name, false, word, token),
+            Part::DeclaresFunction(word) => self.declare(name, true, word, token),
             Part::Mentions => Ok(self.mention(name)),
         }
     }

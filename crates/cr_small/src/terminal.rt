@@ -14,6 +14,8 @@ pub enum Terminal {
     Int,
     Void,
     Return,
+    Static,
+    Extern,
     Name,
     Number,
     Open,
@@ -82,6 +84,10 @@ pub fn terminal_of(text: &[u8]) -> Terminal
         Terminal::Void
     } else if text == b"return".as_slice() {
         Terminal::Return
+    } else if text == b"static".as_slice() {
+        Terminal::Static
+    } else if text == b"extern".as_slice() {
+        Terminal::Extern
     } else if is_name(text) {
         Terminal::Name
     } else if is_number(text) {

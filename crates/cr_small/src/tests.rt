@@ -1,52 +1,178 @@
+//! Values from C11's rules on scope and linkage, counted by hand.
 use crate::{
-    a_target_has_a_place, cut, denotations_are_one, has_text, places_of, places_rise,
-    renaming_keeps_the_meaning, resolve, target_at,
+    EntityKey, a_target_has_a_place, a_target_names_its_key, cut, denotations_are_one,
+    every_text_is_decided, has_text, keys_move, places_of, places_rise, renaming_keeps_the_meaning,
+    resolve, target_at,
 };
+use cr_base::OutOfMemory;
+use std::alloc::Global;
 use std::test::Fail;
 
+fn is_of_the_small_form(alloc: Global, text: &[u8]) -> Result<bool, OutOfMemory> {
+    let tokens = cut(alloc, text)?;
+    let found = resolve(alloc, &tokens)?;
+    Ok(found.is_some())
+}
+
+fn is_same(key: EntityKey, wanted: EntityKey) -> bool {
+    match (key, wanted) {
+        (EntityKey::External(name), EntityKey::External(wanted)) => name == wanted,
+        (EntityKey::At(offset), EntityKey::At(wanted)) => offset == wanted,
+        _ => false,
+    }
+}
+
+// What stands at an offset of a text, and where its entity stands.
+#[derive(Clone, Copy)]
+struct Case<'a> {
+    text: &'a [u8],
+    offset: usize,
+    name: &'a [u8],
+    key: EntityKey<'a>,
+    at_file_scope: bool,
+    places: &'a [usize],
+}
+
+fn holds(alloc: Global, case: &Case) -> Result<bool, OutOfMemory> {
+    let tokens = cut(alloc, case.text)?;
+    let Some(denotes) = resolve(alloc, &tokens)? else {
+        return Ok(false);
+    };
+    let Some(target) = target_at(&tokens, &denotes, case.offset) else {
+        return Ok(false);
+    };
+    let places = places_of(alloc, &tokens, &denotes, target.key)?;
+    Ok(
+        is_same(target.key, case.key)
+            && target.name == case.name
+            && target.at_file_scope == case.at_file_scope
+            && places.as_slice() == case.places,
+    )
+}
+
 #[test]
-fn a_text_of_the_small_form_is_cut_bound_and_searched(rt: HostRuntime) -> Result<(), Fail> {
-    let alloc = rt.alloc();
+fn the_laws_are_called(_rt: HostRuntime) -> Result<(), Fail> {
     places_rise();
     a_target_has_a_place();
+    a_target_names_its_key();
     denotations_are_one();
+    every_text_is_decided();
     renaming_keeps_the_meaning();
-    let tokens = cut(alloc, b"int x; int f(void){ return x + 10; }")?;
-    let mut offsets = Vec::new(alloc);
-    for token in &tokens {
-        offsets.push(token.offset)?;
-    }
-    assert_eq!(rt;
-        offsets.as_slice(),
-        [0, 4, 5, 7, 11, 12, 13, 17, 18, 20, 27, 29, 31, 33, 35].as_slice()
-    );
-    assert!(rt; has_text(&tokens, b"x"));
-    assert!(rt; !has_text(&tokens, b"1"));
-    let denotes = resolve(alloc, &tokens)?.ok_or("not of the small form")?;
-    let target = target_at(&tokens, &denotes, 27).ok_or("no name there")?;
-    assert_eq!(rt; target.name, b"x".as_slice());
-    assert_eq!(rt; target.entity, 1);
-    let places = places_of(alloc, &tokens, &denotes, target.entity)?;
-    assert_eq!(rt; places.as_slice(), [4, 27].as_slice());
+    keys_move();
     Ok(())
 }
 
 #[test]
-fn other_texts_are_not_of_the_small_form(rt: HostRuntime) -> Result<(), Fail> {
-    let alloc = rt.alloc();
-    let texts: [&[u8]; 8] = [
-        b"int",
-        b"int x",
-        b"int x=;",
-        b"int f(void){",
-        b"int f(void){int y;int y;}",
-        b"int x=y;",
-        b"int f;int f(void);",
-        b"int _x;",
+fn texts_are_of_the_small_form_or_not(rt: HostRuntime) -> Result<(), Fail> {
+    let texts: [(&[u8], bool); 28] = [
+        (b"", true),
+        (b"int x; int f(void){ return x + 10; }", true),
+        (b"int foo;int f(void){int foo;return foo;}", true),
+        (b"static int foo;extern int foo;", true),
+        (b"static int f(void);int f(void){return 0;}", true),
+        (b"static int f(void);extern int f(void);", true),
+        (b"int foo;extern int foo;", true),
+        (b"extern int foo;int foo;", true),
+        (b"extern int f(void);int f(void){return f();}", true),
+        (b"static int foo=1;static int foo;", true),
+        (b"int", false),
+        (b"int x", false),
+        (b"int x=;", false),
+        (b"int f(void){", false),
+        (b"int f(void){int y;int y;}", false),
+        (b"int x=y;", false),
+        (b"int f;int f(void);", false),
+        (b"int _x;", false),
+        (b"static int foo;int foo;", false),
+        (b"int foo;static int foo;", false),
+        (b"extern int foo;static int foo;", false),
+        (b"extern int f(void);static int f(void);", false),
+        (b"static int foo;static int foo(void);", false),
+        (b"static extern int foo;", false),
+        (b"static foo;", false),
+        (b"int static foo;", false),
+        (b"int f(void){static int x;}", false),
+        (b"int f(void){extern int x;}", false),
     ];
-    for text in &texts {
-        let tokens = cut(alloc, text)?;
-        assert!(rt; resolve(alloc, &tokens)?.is_none());
+    for (text, small) in &texts {
+        assert_eq!(rt; is_of_the_small_form(rt.alloc(), text)?, *small);
     }
+    Ok(())
+}
+
+#[test]
+fn a_name_is_told_by_its_key_and_stands_at_its_places(rt: HostRuntime) -> Result<(), Fail> {
+    let cases = [
+        Case {
+            text: b"int foo;int f(void){int foo;return foo;}",
+            offset: 4,
+            name: b"foo",
+            key: EntityKey::External(b"foo"),
+            at_file_scope: true,
+            places: &[4],
+        },
+        Case {
+            text: b"int foo;int f(void){int foo;return foo;}",
+            offset: 37,
+            name: b"foo",
+            key: EntityKey::At(24),
+            at_file_scope: false,
+            places: &[24, 35],
+        },
+        Case {
+            text: b"static int foo;extern int foo;int f(void){return foo;}",
+            offset: 26,
+            name: b"foo",
+            key: EntityKey::At(11),
+            at_file_scope: true,
+            places: &[11, 26, 49],
+        },
+        Case {
+            text: b"static int f(void);int f(void){return 0;}",
+            offset: 23,
+            name: b"f",
+            key: EntityKey::At(11),
+            at_file_scope: true,
+            places: &[11, 23],
+        },
+        Case {
+            text: b"extern int foo;int foo;",
+            offset: 19,
+            name: b"foo",
+            key: EntityKey::External(b"foo"),
+            at_file_scope: true,
+            places: &[11, 19],
+        },
+        Case {
+            text: b"static int foo;\nint a(void){return foo;}\n",
+            offset: 11,
+            name: b"foo",
+            key: EntityKey::At(11),
+            at_file_scope: true,
+            places: &[11, 35],
+        },
+        Case {
+            text: b"int foo(void);\nint a(void){return foo();}\n",
+            offset: 4,
+            name: b"foo",
+            key: EntityKey::External(b"foo"),
+            at_file_scope: true,
+            places: &[4, 34],
+        },
+    ];
+    for case in &cases {
+        assert!(rt; holds(rt.alloc(), case)?);
+    }
+    Ok(())
+}
+
+#[test]
+fn a_keyword_is_a_text_and_no_target(rt: HostRuntime) -> Result<(), Fail> {
+    let alloc = rt.alloc();
+    let tokens = cut(alloc, b"static int foo;")?;
+    let denotes = resolve(alloc, &tokens)?.ok_or("not of the small form")?;
+    assert!(rt; has_text(&tokens, b"static"));
+    assert!(rt; !has_text(&tokens, b"fo"));
+    assert!(rt; target_at(&tokens, &denotes, 0).is_none());
     Ok(())
 }

@@ -1,5 +1,5 @@
-use Rattle.cr_small.proofs.Names.{places_rise_proof}
+use Rattle.cr_small.proofs.KeyLaws.{places-rise}
 use Rattle.cr_small.proofs.laws.places_rise.Goals as goal
 
 pub returns : goal.returns
-returns c = places_rise_proof
+returns c = places-rise

@@ -1,0 +1,5 @@
+use Rattle.cr_small.proofs.KeyKeeping.{keys-move}
+use Rattle.cr_small.proofs.laws.keys_move.Goals as goal
+
+pub returns : goal.returns
+returns c = keys-move
