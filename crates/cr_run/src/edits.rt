@@ -1,22 +1,56 @@
-//! The new name, and the text with it in the old one's place.
+//! The files that change, with the new name in the old one's place.
 ghost use Rattle.std.specs.Prelude.{◌≡◌, length, IfOk};
 ghost use Rattle.cr_base.specs.Substitution.{Rise, substituted};
-ghost use Rattle.cr_run.specs.Outcome as outcome;
+ghost use Rattle.cr_run.specs.Editing.{AllRise, edit_of_entry, edits_of};
 
-use cr_base::{OutOfMemory, is_identifier, is_keyword, is_reserved};
+use crate::survey::{Survey, Surveyed};
+use cr_base::{List, OutOfMemory, PathText};
 use std::alloc::Global;
 
-/// Whether a new name is refused by itself: it is no identifier, or a keyword, `defined`, `main`, or
-/// reserved (C11 6.4.2.1, 6.4.1, 7.1.3).
-#[tactic(auto, unfolding(crate::specs::Outcome::is_refused))]
-pub fn is_refused(new: &[u8]) -> bool
-    ensures { result ≡ outcome.is_refused new.now }
+/// A file that changes: where the old name stands in it, and its new bytes.
+#[derive(Drop)]
+pub struct FileEdit {
+    pub path: PathText,
+    pub offsets: List<usize>,
+    pub edited: List<u8>,
+}
+
+/// The files of a survey in which the old name stands, with the new name in its place.
+pub fn edit_files(
+    alloc: Global,
+    survey: &Survey,
+    old: &[u8],
+    new: &[u8],
+) -> Result<Vec<FileEdit>, OutOfMemory>
+    requires { AllRise old.now survey.now.files.entries }
+    ensures { IfOk result (λ v. v.items ≡ edits_of old.now new.now survey.now.files.entries) }
 {
-    !is_identifier(new)
-        || is_keyword(new)
-        || new == b"defined".as_slice()
-        || new == b"main".as_slice()
-        || is_reserved(new)
+    let mut edits = Vec::new(alloc);
+    for (path, found) in survey.files.iter() {
+        if !found.places.items().is_empty() {
+            edits.push(edit_file(alloc, path, found, old, new)?)?;
+        }
+    }
+    Ok(edits)
+}
+
+fn edit_file(
+    alloc: Global,
+    path: &PathText,
+    found: &Surveyed,
+    old: &[u8],
+    new: &[u8],
+) -> Result<FileEdit, OutOfMemory>
+    requires { Rise 0 found.now.places (length old.now) (length found.now.bytes) }
+    ensures { IfOk result (λ edit. edit ≡ edit_of_entry old.now new.now (path.now, found.now)) }
+{
+    let offsets = found.places.items();
+    let edited = apply(alloc, found.bytes.items(), offsets, old.len(), new)?;
+    Ok(FileEdit {
+        path: path.copy(alloc)?,
+        offsets: List::of(offsets.to_vec(alloc)?),
+        edited: List::of(edited),
+    })
 }
 
 /// The bytes with the new text in the place of `old_len` bytes at each of the offsets.

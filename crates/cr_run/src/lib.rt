@@ -1,17 +1,20 @@
 //! The whole tool as one call.
 #![tactic(auto)]
 
-mod command_line;
 mod edits;
+mod entries;
+mod goal;
 mod laws;
+mod number;
 mod plan;
 mod refusal;
 mod report;
-mod top;
-
-pub use laws::{an_accepted_rename_keeps_the_meaning, the_outcome_is_one};
-pub use refusal::Refusal;
-pub use top::crename_serial;
-
+mod survey;
 #[cfg(test)]
 mod tests;
+mod top;
+mod units;
+mod write;
+
+pub use laws::{an_accepted_rename_keeps_the_meaning, the_outcome_is_one};
+pub use top::crename_serial;

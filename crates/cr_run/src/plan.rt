@@ -1,122 +1,333 @@
 //! What is to be done, before anything is changed.
-ghost use Rattle.std.specs.Prelude.{◌≡◌, ◌≤◌, map, string_bytes, length, Some, IfOk};
+ghost use Rattle.std.specs.Prelude.{◌≡◌, ◌≤◌, List, ℕ, Bool, map, string_bytes, length, Some, None, IfOk, false};
+ghost use Rattle.std.specs.Option.{option_map};
+ghost use Rattle.cr_compdb.specs.declared.entry.Entry.{Entry as EntryOf};
 ghost use Rattle.cr_world.specs.Outside.{Files, Rose};
-ghost use Rattle.cr_small.specs.Seen.{token_of, target_of_code};
+ghost use Rattle.cr_small.specs.Seen.{token_of, key_of_code, target_of_code};
 ghost use Rattle.cr_small.specs.Tokens.{cut};
 ghost use Rattle.cr_small.specs.SmallForm.{IsSmallForm};
-ghost use Rattle.cr_run.specs.Seen.{request_of};
-ghost use Rattle.cr_small.specs.Renaming.{target_at};
-ghost use Rattle.std.specs.List.{zip};
-ghost use Rattle.cr_run.specs.Outcome.{IsOutcome, IsTextOutcome, rename_of};
-ghost use Rattle.cr_run.specs.Report.{report_of};
-ghost use Rattle.cr_run.specs.Top.{Decides, HasReadCause, IsSource};
+ghost use Rattle.cr_small.specs.Renaming as renaming;
+ghost use Rattle.cr_run.specs.Units.{IsMain};
+ghost use Rattle.cr_run.specs.Survey.{Meaning, IsMeaning, size_of};
+ghost use Rattle.cr_run.specs.Outcome as spec;
+ghost use Rattle.cr_run.specs.Reading.{ReadsOnly, HasReadCause, MayRead, MayReadFor};
+ghost use Rattle.cr_run.specs.Refusals.{Answers};
+ghost use Rattle.cr_run.specs.Seen.{goal_of_code, skip_of_code};
+ghost use Rattle.cr_run.specs.Held.{Wanted, Holds, SurveysTo, wanted_for};
+ghost use Rattle.cr_run.specs.Editing.{AllRise};
+ghost use Rattle.cr_run.specs.Writing.{AreWrites};
+ghost use Rattle.cr_run.specs.Planning.{IsPlan, Plans, AreParted, writes_if};
 
-use crate::command_line::{Request, read_words};
-use crate::edits::{apply, is_refused};
+use crate::edits::{FileEdit, edit_files};
+use crate::entries::read_entries;
+use crate::goal::{Goal, read_goal};
 use crate::refusal::Refusal;
-use crate::report::report;
-use cr_base::{OutOfMemory, PathText};
+use crate::report::{Head, report};
+use crate::survey::{MAX_FILE, SmallText, Sought, Survey, Surveyed};
+use crate::units::Entries;
+use crate::write::{Write, writes_of};
+use cr_base::{OutOfMemory, Unit};
 use cr_small::{
-    Denotation, Target, Token, a_target_has_a_place, cut, has_text, places_of, places_rise,
-    resolve, target_at,
+    EntityKey, Target, a_target_names_its_key, cut, denotations_are_one, resolve, target_at,
 };
 use cr_world::{ReadEnd, Tree};
 use std::alloc::Global;
 
-const MAX_FILE: usize = 16_777_216;
+/// A rename that is ready: the files that are to be replaced, in order, and the report.
+#[derive(Drop)]
+pub struct Plan {
+    pub writes: Vec<Write>,
+    pub report: Vec<u8>,
+}
 
-/// The report of what the words ask for, or why it isn't done. Nothing is changed.
-pub fn plan<T: Tree>(alloc: Global, words: &[String], tree: &mut T) -> Result<Vec<u8>, Refusal>
-    ensures same { T.files tree.new ≡ T.files tree.old }
-    ensures decided { (files : Files) → T.files tree.old ≡ Some files
-        → Decides (λ v. v.items) (IsOutcome (map string_bytes words.now) files) files result }
-    ensures cause { HasReadCause (λ path. IsSource (map string_bytes words.now) path
-        × Rose (T.reads tree.old path) (T.reads tree.new path)) result }
+/// What the words ask for, or why it isn't done. Nothing is changed.
+pub fn make_plan<'a, T: Tree>(
+    alloc: Global,
+    words: &'a [String],
+    tree: &mut T,
+) -> Result<Plan, Refusal<'a>>
+    ensures writes { IfOk result (λ plan. AreWrites plan.writes.items) }
+    ensures reads { ReadsOnly (T.files tree.old) (T.files tree.new) (T.reads tree.old) (T.reads tree.new) (T.replaces tree.old) (T.replaces tree.new) }
+    ensures decided { (meaning : Meaning) (files : Files) → IsMeaning meaning → T.files tree.old ≡ Some files
+        → Plans files (spec.outcome meaning (map string_bytes words.now) files) result }
+    ensures cause { HasReadCause (λ path. Rose (T.reads tree.old path) (T.reads tree.new path)
+        × ((files : Files) → T.files tree.old ≡ Some files → MayRead (map string_bytes words.now) files path)) result }
 {
-    let Some(request) = read_words(words) else {
-        return Err(Refusal::Usage);
-    };
-    let path = PathText::normalise(alloc, &PathText::empty(alloc), request.source)?;
+    let goal = read_goal(alloc, words)?;
+    plan_goal(alloc, tree, &goal)
+}
+
+fn plan_goal<'a, T: Tree>(alloc: Global, tree: &mut T, goal: &Goal<'a>) -> Result<Plan, Refusal<'a>>
+    ensures writes { IfOk result (λ plan. AreWrites plan.writes.items) }
+    ensures reads { ReadsOnly (T.files tree.old) (T.files tree.new) (T.reads tree.old) (T.reads tree.new) (T.replaces tree.old) (T.replaces tree.new) }
+    ensures decided { (meaning : Meaning) (files : Files) → IsMeaning meaning → T.files tree.old ≡ Some files
+        → Plans files (spec.of_goal meaning files (goal_of_code goal.now)) result }
+    ensures cause { HasReadCause (λ path. Rose (T.reads tree.old path) (T.reads tree.new path)
+        × ((files : Files) → T.files tree.old ≡ Some files → MayReadFor (goal_of_code goal.now) files path)) result }
+{
+    let entries = read_entries(alloc, tree, goal)?;
+    let parted = Entries::of(alloc, entries)?;
+    plan_entries(alloc, tree, goal, &parted)
+}
+
+// What the entries decide.
+fn plan_entries<'a, T: Tree>(
+    alloc: Global,
+    tree: &mut T,
+    goal: &Goal<'a>,
+    entries: &Entries,
+) -> Result<Plan, Refusal<'a>>
+    ensures writes { IfOk result (λ plan. AreWrites plan.writes.items) }
+    ensures reads { ReadsOnly (T.files tree.old) (T.files tree.new) (T.reads tree.old) (T.reads tree.new) (T.replaces tree.old) (T.replaces tree.new) }
+    ensures decided { (meaning : Meaning) (files : Files) (es : List EntryOf) → IsMeaning meaning → T.files tree.old ≡ Some files → AreParted es entries.now
+        → Plans files (spec.of_entries meaning files (goal_of_code goal.now) es) result }
+    ensures cause { HasReadCause (λ path. Rose (T.reads tree.old path) (T.reads tree.new path)
+        × spec.IsSourceOrMain (goal_of_code goal.now) entries.now.units.items path) result }
+{
     let mut bytes = Vec::new(alloc);
-    match tree.read(alloc, &path, MAX_FILE, &mut bytes) {
-        ReadEnd::Bytes => rename(alloc, &request, path, &bytes),
-        ReadEnd::Absent => Err(Refusal::Unbuilt(path)),
-        ReadEnd::Long => Err(Refusal::Unbuilt(path)),
-        ReadEnd::Failed => Err(Refusal::ReadFault(path)),
+    match tree.read(alloc, &goal.source, MAX_FILE, &mut bytes) {
+        ReadEnd::Bytes => plan_source(alloc, tree, goal, entries, &bytes),
+        ReadEnd::Absent => plan_absent(alloc, tree, goal, entries),
+        ReadEnd::Long => Err(Refusal::LimitFiles),
+        ReadEnd::Failed => Err(Refusal::ReadFault(goal.source.copy(alloc)?)),
         ReadEnd::OutOfMemory => Err(Refusal::OutOfMemory),
     }
 }
 
-/// The report of a rename in one file.
-fn rename(
+// Nothing stands at an offset of a source that is absent.
+fn plan_absent<'a, T: Tree>(
     alloc: Global,
-    request: &Request,
-    path: PathText,
-    bytes: &[u8],
-) -> Result<Vec<u8>, Refusal>
-    requires { length bytes.now ≤ 16777216 }
-    ensures decided { (files : Files) → files path ≡ Some bytes.now
-        → Decides (λ v. v.items) (IsTextOutcome (request_of request.now) path (cut 0 bytes.now)) files result }
-    ensures cause { HasReadCause (λ path. ⊥) result }
+    tree: &mut T,
+    goal: &Goal<'a>,
+    entries: &Entries,
+) -> Result<Plan, Refusal<'a>>
+    ensures writes { IfOk result (λ plan. AreWrites plan.writes.items) }
+    ensures reads { ReadsOnly (T.files tree.old) (T.files tree.new) (T.reads tree.old) (T.reads tree.new) (T.replaces tree.old) (T.replaces tree.new) }
+    ensures decided { (meaning : Meaning) (files : Files) (es : List EntryOf) → IsMeaning meaning → T.files tree.old ≡ Some files → AreParted es entries.now → files goal.now.source ≡ None
+        → Plans files (spec.of_target meaning files (goal_of_code goal.now) es None) result }
+    ensures cause { HasReadCause (λ path. Rose (T.reads tree.old path) (T.reads tree.new path)
+        × IsMain entries.now.units.items path) result }
 {
+    let sought = Sought {
+        source: &goal.source,
+        old: b"",
+        key: None,
+        new: goal.new,
+    };
+    let found = Surveyed::unclear(alloc);
+    let mut survey = Survey::start(alloc, goal.source.copy(alloc)?, found, 0)?;
+    survey.read_units(alloc, tree, &sought, &entries.units)?;
+    Err(Refusal::NoSymbol)
+}
+
+// What a source that is there decides.
+fn plan_source<'a, T: Tree>(
+    alloc: Global,
+    tree: &mut T,
+    goal: &Goal<'a>,
+    entries: &Entries,
+    bytes: &[u8],
+) -> Result<Plan, Refusal<'a>>
+    requires { length bytes.now ≤ 16777216 }
+    ensures writes { IfOk result (λ plan. AreWrites plan.writes.items) }
+    ensures reads { ReadsOnly (T.files tree.old) (T.files tree.new) (T.reads tree.old) (T.reads tree.new) (T.replaces tree.old) (T.replaces tree.new) }
+    ensures decided { (meaning : Meaning) (files : Files) (es : List EntryOf) → IsMeaning meaning → T.files tree.old ≡ Some files → AreParted es entries.now → files goal.now.source ≡ Some bytes.now
+        → Plans files (spec.of_text meaning files (goal_of_code goal.now) es (cut 0 bytes.now)) result }
+    ensures cause { HasReadCause (λ path. Rose (T.reads tree.old path) (T.reads tree.new path)
+        × IsMain entries.now.units.items path) result }
+{
+    denotations_are_one();
     let tokens = cut(alloc, bytes)?;
     let Some(denotes) = resolve(alloc, &tokens)? else {
-        return Err(Refusal::Unbuilt(path));
+        return Err(Refusal::Unbuilt(goal.source.copy(alloc)?));
     };
-    if is_refused(request.new) {
-        return Err(Refusal::Unbuilt(path));
-    }
-    if has_text(&tokens, request.new) {
-        return Err(Refusal::Unbuilt(path));
-    }
-    let Some(target) = target_at(&tokens, &denotes, request.offset as usize) else {
-        return Err(Refusal::NoSymbol);
-    };
-    if target.name == b"main".as_slice() {
-        return Err(Refusal::Unbuilt(path));
-    }
-    let source = Source {
+    let text = SmallText {
         bytes,
         tokens: &tokens,
         denotes: &denotes,
     };
-    let report = edit(alloc, request, &path, &source, &target)?;
-    Ok(report)
+    plan_text(alloc, tree, goal, entries, &text)
 }
 
-/// A text of the small form, with its tokens and what each of them denotes.
-#[derive(Clone, Copy)]
-struct Source<'a> {
-    bytes: &'a [u8],
-    tokens: &'a [Token<'a>],
-    denotes: &'a [Option<Denotation>],
-}
-
-/// The report of the edits that put the new name wherever the target's entity stands.
-fn edit(
+// What a source of the small form decides.
+fn plan_text<'a, T: Tree>(
     alloc: Global,
-    request: &Request,
-    path: &PathText,
-    source: &Source,
-    target: &Target,
-) -> Result<Vec<u8>, OutOfMemory>
-    requires length { length source.now.denotes.now ≡ length source.now.tokens.now }
-    requires tokens { map token_of source.now.tokens.now ≡ cut 0 source.now.bytes.now }
-    requires small { IsSmallForm (cut 0 source.now.bytes.now) source.now.denotes.now }
-    requires target { target_at request.now.offset (zip (cut 0 source.now.bytes.now) source.now.denotes.now) ≡ Some (target_of_code target.now) }
-    ensures { IfOk result (λ v. (files : Files) → files path.now ≡ Some source.now.bytes.now
-        → v.items ≡ report_of files (rename_of (request_of request.now) path.now (zip (cut 0 source.now.bytes.now) source.now.denotes.now) (target_of_code target.now))) }
+    tree: &mut T,
+    goal: &Goal<'a>,
+    entries: &Entries,
+    text: &SmallText,
+) -> Result<Plan, Refusal<'a>>
+    requires size { length text.now.bytes.now ≤ 16777216 }
+    requires length { length text.now.denotes.now ≡ length text.now.tokens.now }
+    requires tokens { map token_of text.now.tokens.now ≡ cut 0 text.now.bytes.now }
+    requires small { IsSmallForm (cut 0 text.now.bytes.now) text.now.denotes.now }
+    ensures writes { IfOk result (λ plan. AreWrites plan.writes.items) }
+    ensures reads { ReadsOnly (T.files tree.old) (T.files tree.new) (T.reads tree.old) (T.reads tree.new) (T.replaces tree.old) (T.replaces tree.new) }
+    ensures decided { (meaning : Meaning) (files : Files) (es : List EntryOf) → IsMeaning meaning → T.files tree.old ≡ Some files → AreParted es entries.now → files goal.now.source ≡ Some text.now.bytes.now
+        → meaning (cut 0 text.now.bytes.now) ≡ Some text.now.denotes.now
+        → Plans files (spec.of_denotes meaning files (goal_of_code goal.now) es (cut 0 text.now.bytes.now) text.now.denotes.now) result }
+    ensures cause { HasReadCause (λ path. Rose (T.reads tree.old path) (T.reads tree.new path)
+        × IsMain entries.now.units.items path) result }
 {
-    places_rise();
-    a_target_has_a_place();
-    let offsets = places_of(alloc, source.tokens, source.denotes, target.entity)?;
-    let edited = apply(
-        alloc,
-        source.bytes,
-        &offsets,
-        target.name.len(),
-        request.new,
-    )?;
-    let report = report(alloc, target.name, request.new, path, &offsets, &edited)?;
-    Ok(report)
+    let target = target_at(text.tokens, text.denotes, goal.offset as usize);
+    may_rename(goal, &target)?;
+    let survey = survey_from(alloc, tree, goal, &entries.units, text, &target)?;
+    let target = renamable(goal, &entries.units, target)?;
+    let plan = planned(alloc, goal, entries, &survey, &target)?;
+    Ok(plan)
+}
+
+// What stands at the offset keeps its name where that is `main` or the new name.
+fn may_rename<'a>(goal: &Goal<'a>, target: &Option<Target>) -> Result<(), Refusal<'a>>
+    ensures may { Answers (λ done. option_map target_of_code target.now) (spec.may_rename (goal_of_code goal.now) (option_map target_of_code target.now)) result }
+    ensures cause { HasReadCause (λ path. ⊥) result }
+{
+    match target {
+        Some(target) => may_rename_target(goal, target),
+        None => Ok(()),
+    }
+}
+
+fn may_rename_target<'a>(goal: &Goal<'a>, target: &Target) -> Result<(), Refusal<'a>>
+    ensures may { Answers (λ done. Some (target_of_code target.now)) (spec.may_rename (goal_of_code goal.now) (Some (target_of_code target.now))) result }
+    ensures cause { HasReadCause (λ path. ⊥) result }
+{
+    if target.name == goal.new {
+        return Err(Refusal::Reserved(goal.new));
+    }
+    if target.name == b"main".as_slice() {
+        return Err(Refusal::Reserved(b"main"));
+    }
+    Ok(())
+}
+
+// The main files of the units, where none refuses.
+fn survey_from<'a, T: Tree>(
+    alloc: Global,
+    tree: &mut T,
+    goal: &Goal<'_>,
+    units: &[Unit],
+    text: &SmallText,
+    target: &Option<Target<'_>>,
+) -> Result<Survey, Refusal<'a>>
+    requires size { length text.now.bytes.now ≤ 16777216 }
+    requires length { length text.now.denotes.now ≡ length text.now.tokens.now }
+    requires tokens { map token_of text.now.tokens.now ≡ cut 0 text.now.bytes.now }
+    requires small { IsSmallForm (cut 0 text.now.bytes.now) text.now.denotes.now }
+    requires target { option_map target_of_code target.now ≡ renaming.target_at goal.now.offset (cut 0 text.now.bytes.now) text.now.denotes.now }
+    ensures reads { ReadsOnly (T.files tree.old) (T.files tree.new) (T.reads tree.old) (T.reads tree.new) (T.replaces tree.old) (T.replaces tree.new) }
+    ensures surveyed { (meaning : Meaning) (files : Files) → IsMeaning meaning → T.files tree.old ≡ Some files → files goal.now.source ≡ Some text.now.bytes.now
+        → meaning (cut 0 text.now.bytes.now) ≡ Some text.now.denotes.now
+        → SurveysTo meaning files (wanted_for (goal_of_code goal.now) (option_map target_of_code target.now)) units.now result }
+    ensures rises { IfOk result (λ survey. (t : renaming.Target) → option_map target_of_code target.now ≡ Some t → AllRise t.name survey.files.entries) }
+    ensures cause { HasReadCause (λ path. Rose (T.reads tree.old path) (T.reads tree.new path) × IsMain units.now path) result }
+{
+    a_target_names_its_key();
+    let sought = Sought {
+        source: &goal.source,
+        old: name_of(target),
+        key: key_of(target),
+        new: goal.new,
+    };
+    let found = Surveyed::of(alloc, &sought, sought.key, text)?;
+    let mut survey = Survey::start(alloc, goal.source.copy(alloc)?, found, text.bytes.len())?;
+    survey.read_units(alloc, tree, &sought, units)?;
+    Ok(survey)
+}
+
+// The name of what stands at the offset, or nothing.
+fn name_of<'b>(target: &Option<Target<'b>>) -> &'b [u8]
+    ensures { result.now ≡ spec.name_or_nothing (option_map target_of_code target.now) }
+{
+    match target {
+        Some(target) => target.name,
+        None => b"",
+    }
+}
+
+// The key of what stands at the offset.
+fn key_of<'b>(target: &Option<Target<'b>>) -> Option<EntityKey<'b>>
+    ensures { option_map key_of_code result ≡ option_map (λ t. t.key) (option_map target_of_code target.now) }
+{
+    match target {
+        Some(target) => Some(target.key),
+        None => None,
+    }
+}
+
+// What stands at the offset must be a name, in the main file of some unit.
+fn renamable<'a, 'b>(
+    goal: &Goal<'a>,
+    units: &[Unit],
+    target: Option<Target<'b>>,
+) -> Result<Target<'b>, Refusal<'a>>
+    ensures renamable { Answers target_of_code (spec.renamable (goal_of_code goal.now) units.now (option_map target_of_code target.entry)) result }
+    ensures cause { HasReadCause (λ path. ⊥) result }
+{
+    let Some(target) = target else {
+        return Err(Refusal::NoSymbol);
+    };
+    if !has_main(goal, units) {
+        return Err(Refusal::NoSymbol);
+    }
+    if begins_with_underscore(goal.new) && target.at_file_scope {
+        return Err(Refusal::Reserved(goal.new));
+    }
+    Ok(target)
+}
+
+// Whether the source is the main file of a unit.
+fn has_main(goal: &Goal<'_>, units: &[Unit]) -> bool
+    ensures { result ≡ spec.is_main_source (goal_of_code goal.now) units.now }
+{
+    for unit in units {
+        if goal.source == unit.main {
+            return true;
+        }
+    }
+    false
+}
+
+fn begins_with_underscore(name: &[u8]) -> bool
+    ensures { result ≡ spec.begins_with_underscore name.now }
+{
+    match name {
+        [first, ..] => *first == b'_',
+        [] => false,
+    }
+}
+
+fn planned(
+    alloc: Global,
+    goal: &Goal<'_>,
+    entries: &Entries,
+    survey: &Survey,
+    target: &Target,
+) -> Result<Plan, OutOfMemory>
+    requires { AllRise target.now.name.now survey.now.files.entries }
+    ensures writes { IfOk result (λ plan. AreWrites plan.writes.items) }
+    ensures plan { IfOk result (λ plan. (meaning : Meaning) (files : Files) (es : List EntryOf) → AreParted es entries.now
+        → Holds meaning files (wanted_for (goal_of_code goal.now) (Some (target_of_code target.now))) entries.now.units.items survey.now
+        → IsPlan files (spec.rename_of meaning files (goal_of_code goal.now) es (target_of_code target.now)) plan) }
+{
+    let edits = edit_files(alloc, survey, target.name, goal.new)?;
+    let head = Head {
+        old: target.name,
+        new: goal.new,
+        units: entries.units.len(),
+    };
+    let report = report(alloc, &head, &edits, &entries.skipped, goal.in_place)?;
+    let writes = writes_in(alloc, edits, goal.in_place)?;
+    Ok(Plan { writes, report })
+}
+
+// The files are replaced where that was asked for.
+fn writes_in(alloc: Global, edits: Vec<FileEdit>, in_place: bool) -> Result<Vec<Write>, OutOfMemory>
+    ensures { IfOk result (λ writes. writes.items ≡ writes_if in_place edits.items) }
+{
+    if in_place {
+        writes_of(alloc, edits)
+    } else {
+        Ok(Vec::new(alloc))
+    }
 }

@@ -7,6 +7,8 @@ use std::{env, fs, process};
 
 const TWO_FUNCTIONS: &[u8] = b"int foo(void){return 0;}\nint main(void){return foo();}\n";
 
+const TWO_FUNCTIONS_RENAMED: &[u8] = b"int bar(void){return 0;}\nint main(void){return bar();}\n";
+
 const TWO_FUNCTIONS_REPORT: &[u8] =
     b"renamed foo to bar\nunits 1, skipped 0, files 1, edits 2\nedit a.c 4\nedit a.c 47\nfile a.c 55\nint bar(void){return 0;}\nint main(void){return bar();}\n\n";
 
@@ -18,85 +20,334 @@ const HIDDEN_REPORT: &[u8] =
 const INNER_REPORT: &[u8] =
     b"renamed x to z\nunits 1, skipped 0, files 1, edits 2\nedit a.c 22\nedit a.c 33\nfile a.c 44\nint x;int f(void){int z=1;return z;}int y=x;\n";
 
+const UNBUILT: &[u8] = b"crename: unbuilt: a.c\n";
+
+const NO_SYMBOL: &[u8] = b"crename: no symbol\n";
+
+const TWO_UNITS: &[u8] =
+    b"[{\"directory\":\"/w\",\"file\":\"a.c\",\"arguments\":[\"cc\",\"-c\",\"a.c\"]},{\"directory\":\"/w\",\"file\":\"b.c\",\"arguments\":[\"cc\",\"-c\",\"b.c\"]}]";
+
+const IN_PLACE: &str = "-p /w/db /w/a.c --offset 4 --new-name bar -i";
+
 #[derive(Drop)]
-struct Case {
-    text: &'static [u8],
-    source: &'static str,
-    offset: &'static str,
-    new: &'static str,
+struct Answer {
     status: u8,
-    out: &'static [u8],
-    err: &'static [u8],
+    out: MemSink,
+    err: MemSink,
 }
 
-fn words_of(alloc: Global, list: &[&str]) -> Result<Vec<String>, AllocError> {
+// The words of a line, split at its blanks.
+fn words_of(alloc: Global, line: &str) -> Result<Vec<String>, AllocError> {
     let mut words = Vec::new(alloc);
-    for word in list {
+    for word in line.split(' ') {
         words.push(String::from_str(alloc, word)?)?;
     }
     Ok(words)
 }
 
-fn tree_of(alloc: Global, text: &[u8]) -> Result<MemTree, Fail> {
+fn path_of(alloc: Global, path: &str) -> Result<PathText, Fail> {
+    Ok(PathText::normalise(alloc, &PathText::empty(alloc), path.as_bytes())?)
+}
+
+fn put(alloc: Global, tree: &mut MemTree, path: &str, text: &[u8]) -> Result<(), Fail> {
+    tree.put(path_of(alloc, path)?, text.to_vec(alloc)?)?;
+    Ok(())
+}
+
+fn two_units(alloc: Global, first: &[u8], second: &[u8]) -> Result<MemTree, Fail> {
     let mut tree = MemTree::new(alloc);
-    let path = PathText::normalise(alloc, &PathText::empty(alloc), b"a.c")?;
-    tree.put(path, text.to_vec(alloc)?)?;
+    put(alloc, &mut tree, "/w/db", TWO_UNITS)?;
+    put(alloc, &mut tree, "/w/a.c", first)?;
+    put(alloc, &mut tree, "/w/b.c", second)?;
     Ok(tree)
 }
 
-const fn case_of(
-    text: &'static [u8],
-    offset: &'static str,
-    new: &'static str,
-    status: u8,
-    out: &'static [u8],
-    err: &'static [u8],
-) -> Case {
-    Case {
-        text,
-        source: "a.c",
-        offset,
-        new,
-        status,
-        out,
-        err,
-    }
+fn told_of(alloc: Global, tree: &mut MemTree, line: &str) -> Result<Answer, Fail> {
+    let words = words_of(alloc, line)?;
+    let mut out = MemSink::new(alloc);
+    let mut err = MemSink::new(alloc);
+    let status = crename_serial(alloc, &words, tree, &mut out, &mut err);
+    Ok(Answer { status, out, err })
 }
 
-const UNBUILT: &[u8] = b"crename: unbuilt: a.c\n";
-
-const NO_SYMBOL: &[u8] = b"crename: no symbol\n";
+#[test]
+fn words_and_names_are_refused_with_their_line(rt: HostRuntime) -> Result<(), Fail> {
+    let alloc = rt.alloc();
+    let mut tree = MemTree::new(alloc);
+    put(alloc, &mut tree, "a.c", TWO_FUNCTIONS)?;
+    let mut out = MemSink::new(alloc);
+    let mut err = MemSink::new(alloc);
+    let none = Vec::new(alloc);
+    let status = crename_serial(alloc, &none, &mut tree, &mut out, &mut err);
+    assert_eq!(rt; status, 2);
+    assert_eq!(rt; err.bytes(), b"crename: usage: --new-name\n".as_slice());
+    let cases: [(&str, u8, &[u8]); 19] = [
+        ("--frob", 2, b"crename: usage: --frob\n"),
+        (
+            "a.c --offset 4 --offset 5",
+            2,
+            b"crename: usage: --offset\n",
+        ),
+        (
+            "a.c --offset 4 --new-name while",
+            7,
+            b"crename: reserved: while\n",
+        ),
+        (
+            "a.c --offset 4 --new-name __x",
+            7,
+            b"crename: reserved: __x\n",
+        ),
+        (
+            "a.c --offset 4 --new-name _X",
+            7,
+            b"crename: reserved: _X\n",
+        ),
+        (
+            "a.c --offset 4 --new-name defined",
+            7,
+            b"crename: reserved: defined\n",
+        ),
+        (
+            "a.c --offset 4 --new-name 9a",
+            7,
+            b"crename: reserved: 9a\n",
+        ),
+        ("a.c --offset 4 --new-name ", 7, b"crename: reserved: \n"),
+        (
+            "a.c --offset 4 --new-name main",
+            7,
+            b"crename: reserved: main\n",
+        ),
+        (
+            "a.c --offset 4 --new-name foo",
+            7,
+            b"crename: reserved: foo\n",
+        ),
+        (
+            "a.c --offset 4 --new-name _x",
+            7,
+            b"crename: reserved: _x\n",
+        ),
+        (
+            "a.c --offset 29 --new-name bar",
+            7,
+            b"crename: reserved: main\n",
+        ),
+        ("a.c --offset 3 --new-name bar", 6, NO_SYMBOL),
+        ("a.c --offset 7 --new-name bar", 6, NO_SYMBOL),
+        ("a.c --offset 55 --new-name bar", 6, NO_SYMBOL),
+        (
+            "b.c --offset 4 --new-name bar",
+            20,
+            b"crename: unbuilt: b.c\n",
+        ),
+        (
+            "-p db --qualified-name foo --new-name bar",
+            20,
+            b"crename: unbuilt: --qualified-name\n",
+        ),
+        (
+            "--root /w a.c --offset 4 --new-name bar",
+            20,
+            b"crename: unbuilt: --root\n",
+        ),
+        ("--generate 5", 20, b"crename: unbuilt: --generate\n"),
+    ];
+    for (line, status, err) in &cases {
+        let told = told_of(alloc, &mut tree, line)?;
+        assert_eq!(rt; told.status, *status);
+        assert_eq!(rt; told.out.bytes(), b"".as_slice());
+        assert_eq!(rt; told.err.bytes(), *err);
+    }
+    Ok(())
+}
 
 #[test]
 fn one_file_is_renamed_or_refused(rt: HostRuntime) -> Result<(), Fail> {
     let alloc = rt.alloc();
-    let cases = [
-        case_of(TWO_FUNCTIONS, "4", "bar", 0, TWO_FUNCTIONS_REPORT, b""),
-        case_of(TWO_FUNCTIONS, "06", "bar", 0, TWO_FUNCTIONS_REPORT, b""),
-        case_of(TWO_FUNCTIONS, "3", "bar", 6, b"", NO_SYMBOL),
-        case_of(TWO_FUNCTIONS, "7", "bar", 6, b"", NO_SYMBOL),
-        case_of(TWO_FUNCTIONS, "55", "bar", 6, b"", NO_SYMBOL),
-        case_of(TWO_FUNCTIONS, "29", "bar", 20, b"", UNBUILT),
-        case_of(TWO_FUNCTIONS, "4", "while", 20, b"", UNBUILT),
-        case_of(b"int foo;\nint bar;\n", "4", "bar", 20, b"", UNBUILT),
-        case_of(b"int foo;\nint foo(void);\n", "4", "bar", 20, b"", UNBUILT),
-        case_of(b"int foo=bar;\n", "4", "baz", 20, b"", UNBUILT),
-        case_of(b"int _foo;int foo;\n", "13", "baz", 20, b"", UNBUILT),
-        case_of(HIDDEN, "4", "z", 0, HIDDEN_REPORT, b""),
-        case_of(HIDDEN, "42", "z", 0, HIDDEN_REPORT, b""),
-        case_of(HIDDEN, "33", "z", 0, INNER_REPORT, b""),
-        case_of(b"int f(void){int x;int x;}", "4", "g", 20, b"", UNBUILT),
+    let cases: [(&[u8], &str, u8, &[u8], &[u8]); 11] = [
+        (
+            TWO_FUNCTIONS,
+            "a.c --offset 4 --new-name bar",
+            0,
+            TWO_FUNCTIONS_REPORT,
+            b"",
+        ),
+        (
+            TWO_FUNCTIONS,
+            "--new-name bar ./x/../a.c --offset=06",
+            0,
+            TWO_FUNCTIONS_REPORT,
+            b"",
+        ),
+        (HIDDEN, "a.c --offset 4 --new-name z", 0, HIDDEN_REPORT, b""),
+        (
+            HIDDEN,
+            "a.c --offset 42 --new-name z",
+            0,
+            HIDDEN_REPORT,
+            b"",
+        ),
+        (HIDDEN, "a.c --offset 33 --new-name z", 0, INNER_REPORT, b""),
+        (
+            b"int foo;\nint bar;\n",
+            "a.c --offset 4 --new-name bar",
+            20,
+            b"",
+            UNBUILT,
+        ),
+        (
+            b"int foo;\nint foo(void);\n",
+            "a.c --offset 4 --new-name bar",
+            20,
+            b"",
+            UNBUILT,
+        ),
+        (
+            b"int foo=bar;\n",
+            "a.c --offset 4 --new-name baz",
+            20,
+            b"",
+            UNBUILT,
+        ),
+        (
+            b"int _foo;int foo;\n",
+            "a.c --offset 13 --new-name baz",
+            20,
+            b"",
+            UNBUILT,
+        ),
+        (
+            b"int f(void){int x;int x;}",
+            "a.c --offset 4 --new-name g",
+            20,
+            b"",
+            UNBUILT,
+        ),
+        (
+            b"extern int f;static int f;",
+            "a.c --offset 11 --new-name g",
+            20,
+            b"",
+            UNBUILT,
+        ),
     ];
-    for case in &cases {
-        let list = [case.source, "--offset", case.offset, "--new-name", case.new];
-        let words = words_of(alloc, &list)?;
-        let mut tree = tree_of(alloc, case.text)?;
-        let mut out = MemSink::new(alloc);
-        let mut err = MemSink::new(alloc);
-        let status = crename_serial(alloc, &words, &mut tree, &mut out, &mut err);
-        assert_eq!(rt; status, case.status);
-        assert_eq!(rt; out.bytes(), case.out);
-        assert_eq!(rt; err.bytes(), case.err);
+    for (text, line, status, out, err) in &cases {
+        let mut tree = MemTree::new(alloc);
+        put(alloc, &mut tree, "a.c", text)?;
+        let told = told_of(alloc, &mut tree, line)?;
+        assert_eq!(rt; told.status, *status);
+        assert_eq!(rt; told.out.bytes(), *out);
+        assert_eq!(rt; told.err.bytes(), *err);
+    }
+    Ok(())
+}
+
+#[test]
+fn a_database_is_refused_with_what_is_wrong(rt: HostRuntime) -> Result<(), Fail> {
+    let alloc = rt.alloc();
+    let mut tree = two_units(alloc, TWO_FUNCTIONS, b"int b;\n")?;
+    let absent = told_of(
+        alloc,
+        &mut tree,
+        "-p /w/no /w/a.c --offset 4 --new-name bar",
+    )?;
+    assert_eq!(rt; absent.status, 3);
+    assert_eq!(rt;
+        absent.err.bytes(),
+        b"crename: database: absent\n".as_slice()
+    );
+    let cases: [(&[u8], &[u8]); 4] = [
+        (b"[", b"crename: database: not json\n"),
+        (b"{}", b"crename: database: not array\n"),
+        (b"[{}]", b"crename: database: entry 0 field directory\n"),
+        (b"[3]", b"crename: database: entry 0 field object\n"),
+    ];
+    for (database, err) in &cases {
+        put(alloc, &mut tree, "/w/db", database)?;
+        let told = told_of(alloc, &mut tree, IN_PLACE)?;
+        assert_eq!(rt; told.status, 3);
+        assert_eq!(rt; told.out.bytes(), b"".as_slice());
+        assert_eq!(rt; told.err.bytes(), *err);
+    }
+    let kept = tree
+        .get(&path_of(alloc, "/w/a.c")?)
+        .ok_or("the file is gone")?;
+    assert_eq!(rt; kept, TWO_FUNCTIONS);
+    Ok(())
+}
+
+#[test]
+fn a_name_is_renamed_in_the_units_that_share_it(rt: HostRuntime) -> Result<(), Fail> {
+    let alloc = rt.alloc();
+    let mut tree = two_units(
+        alloc,
+        b"static int foo;\nint a(void){return foo;}\n",
+        b"int foo;\n",
+    )?;
+    let told = told_of(
+        alloc,
+        &mut tree,
+        "-p /w/db /w/a.c --offset 11 --new-name bar -i",
+    )?;
+    assert_eq!(rt; told.status, 0);
+    assert_eq!(rt;
+        told.out.bytes(),
+        b"renamed foo to bar\nunits 2, skipped 0, files 1, edits 2\nedit /w/a.c 11\nedit /w/a.c 35\n".as_slice()
+    );
+    let first = tree
+        .get(&path_of(alloc, "/w/a.c")?)
+        .ok_or("the file is gone")?;
+    assert_eq!(rt;
+        first,
+        b"static int bar;\nint a(void){return bar;}\n".as_slice()
+    );
+    let second = tree
+        .get(&path_of(alloc, "/w/b.c")?)
+        .ok_or("the file is gone")?;
+    assert_eq!(rt; second, b"int foo;\n".as_slice());
+
+    let mut tree = two_units(
+        alloc,
+        b"int foo(void);\nint a(void){return foo();}\n",
+        b"int foo(void){return 1;}\n",
+    )?;
+    let told = told_of(alloc, &mut tree, IN_PLACE)?;
+    assert_eq!(rt; told.status, 0);
+    assert_eq!(rt;
+        told.out.bytes(),
+        b"renamed foo to bar\nunits 2, skipped 0, files 2, edits 3\nedit /w/a.c 4\nedit /w/a.c 34\nedit /w/b.c 4\n".as_slice()
+    );
+    let first = tree
+        .get(&path_of(alloc, "/w/a.c")?)
+        .ok_or("the file is gone")?;
+    assert_eq!(rt;
+        first,
+        b"int bar(void);\nint a(void){return bar();}\n".as_slice()
+    );
+    let second = tree
+        .get(&path_of(alloc, "/w/b.c")?)
+        .ok_or("the file is gone")?;
+    assert_eq!(rt; second, b"int bar(void){return 1;}\n".as_slice());
+    Ok(())
+}
+
+#[test]
+fn a_unit_that_is_not_built_changes_no_file(rt: HostRuntime) -> Result<(), Fail> {
+    let alloc = rt.alloc();
+    let first = b"int foo(void);\n".as_slice();
+    let seconds: [&[u8]; 3] = [b"int bar;\n", b"#include \"a.h\"\n", b"int b\n"];
+    for second in &seconds {
+        let mut tree = two_units(alloc, first, second)?;
+        let told = told_of(alloc, &mut tree, IN_PLACE)?;
+        assert_eq!(rt; told.status, 20);
+        assert_eq!(rt; told.out.bytes(), b"".as_slice());
+        assert_eq!(rt; told.err.bytes(), b"crename: unbuilt: /w/b.c\n".as_slice());
+        let kept = tree
+            .get(&path_of(alloc, "/w/a.c")?)
+            .ok_or("the file is gone")?;
+        assert_eq!(rt; kept, first);
     }
     Ok(())
 }
@@ -104,33 +355,48 @@ fn one_file_is_renamed_or_refused(rt: HostRuntime) -> Result<(), Fail> {
 #[test]
 fn faults_of_the_outside_have_their_status_and_line(rt: HostRuntime) -> Result<(), Fail> {
     let alloc = rt.alloc();
-    let words = words_of(alloc, &["./x/../a.c", "--offset", "4", "--new-name", "bar"])?;
-    let mut tree = tree_of(alloc, TWO_FUNCTIONS)?;
-    tree.fail_read(1)?;
-    let mut out = MemSink::new(alloc);
-    let mut err = MemSink::new(alloc);
-    let status = crename_serial(alloc, &words, &mut tree, &mut out, &mut err);
-    assert_eq!(rt; status, 4);
-    assert_eq!(rt; err.bytes(), b"crename: read fault: a.c\n".as_slice());
+    let mut tree = two_units(
+        alloc,
+        b"int foo(void);\nint a(void){return foo();}\n",
+        b"int foo(void){return 1;}\n",
+    )?;
+    tree.fail_read(2)?;
+    let told = told_of(alloc, &mut tree, IN_PLACE)?;
+    assert_eq!(rt; told.status, 4);
+    assert_eq!(rt;
+        told.err.bytes(),
+        b"crename: read fault: /w/a.c\n".as_slice()
+    );
+    tree.fail_replace(2)?;
+    let told = told_of(alloc, &mut tree, IN_PLACE)?;
+    assert_eq!(rt; told.status, 16);
+    assert_eq!(rt; told.out.bytes(), b"".as_slice());
+    assert_eq!(rt;
+        told.err.bytes(),
+        b"crename: write fault: /w/b.c after 1 files\n".as_slice()
+    );
+    let first = tree
+        .get(&path_of(alloc, "/w/a.c")?)
+        .ok_or("the file is gone")?;
+    assert_eq!(rt;
+        first,
+        b"int bar(void);\nint a(void){return bar();}\n".as_slice()
+    );
 
+    let words = words_of(alloc, "a.c --offset 4 --new-name bar")?;
+    let mut tree = MemTree::new(alloc);
+    put(alloc, &mut tree, "a.c", TWO_FUNCTIONS)?;
     let mut out = MemSink::new(alloc);
     out.fail_write(1)?;
     let mut err = MemSink::new(alloc);
     let status = crename_serial(alloc, &words, &mut tree, &mut out, &mut err);
     assert_eq!(rt; status, 18);
     assert_eq!(rt; err.bytes(), b"crename: output fault\n".as_slice());
-
-    let words = words_of(alloc, &["a.c", "--offset", "4", "--new-name"])?;
-    let mut out = MemSink::new(alloc);
-    let mut err = MemSink::new(alloc);
-    let status = crename_serial(alloc, &words, &mut tree, &mut out, &mut err);
-    assert_eq!(rt; status, 2);
-    assert_eq!(rt; err.bytes(), b"crename: usage: words\n".as_slice());
     Ok(())
 }
 
 #[test]
-fn a_real_file_is_renamed_in_the_report_alone(rt: HostRuntime) -> Result<(), Fail> {
+fn a_real_file_is_written_in_place(rt: HostRuntime) -> Result<(), Fail> {
     let alloc = rt.alloc();
     let temp = env::temp_dir(&rt)?;
     let number = process::id(rt.process());
@@ -138,21 +404,20 @@ fn a_real_file_is_renamed_in_the_report_alone(rt: HostRuntime) -> Result<(), Fai
     fs::create_dir(&rt, base.as_str())?;
     let path = format!(in alloc; "{base}/a.c")?;
     fs::write(&rt, path.as_str(), TWO_FUNCTIONS)?;
-    let list = [path.as_str(), "--offset", "47", "--new-name", "bar"];
-    let words = words_of(alloc, &list)?;
+    let line = format!(in alloc; "{path} --offset 47 --new-name bar -i")?;
+    let words = words_of(alloc, line.as_str())?;
     let mut tree = DirTree::new(&rt, alloc);
     let mut out = MemSink::new(alloc);
     let mut err = MemSink::new(alloc);
     let status = crename_serial(alloc, &words, &mut tree, &mut out, &mut err);
-    let mut want = format!(in alloc;
-        "renamed foo to bar\nunits 1, skipped 0, files 1, edits 2\nedit {path} 4\nedit {path} 47\nfile {path} 55\n"
+    let want = format!(in alloc;
+        "renamed foo to bar\nunits 1, skipped 0, files 1, edits 2\nedit {path} 4\nedit {path} 47\n"
     )?;
-    want.push_str("int bar(void){return 0;}\nint main(void){return bar();}\n\n")?;
     assert_eq!(rt; status, 0);
     assert_eq!(rt; out.bytes(), want.as_bytes());
     assert_eq!(rt; err.bytes(), b"".as_slice());
     let now = fs::read_to_string(&rt, path.as_str())?;
-    assert_eq!(rt; now.as_bytes(), TWO_FUNCTIONS);
+    assert_eq!(rt; now.as_bytes(), TWO_FUNCTIONS_RENAMED);
     fs::remove_dir_all(&rt, base.as_str())?;
     Ok(())
 }

@@ -1,4 +1,4 @@
-use Rattle.cr_run.proofs.PlanLemmas.{outcome_one}
+use Rattle.cr_run.proofs.Ones.{outcome_one}
 use Rattle.cr_run.proofs.laws.the_outcome_is_one.Goals as goal
 
 pub returns : goal.returns

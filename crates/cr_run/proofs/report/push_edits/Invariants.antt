@@ -1,8 +1,8 @@
-use Rattle.std.proofs.Common.{◌≡◌, ◌++◌, drop}
+use Rattle.std.proofs.Common.{◌≡◌, ◌++◌, drop, map}
 use Rattle.std.specs.List.{flat_map}
-use Rattle.cr_run.specs.Outcome.{places_at}
-use Rattle.cr_run.specs.Report.{edit_line}
+use Rattle.cr_run.specs.Report.{edit_lines}
+use Rattle.cr_run.specs.Seen.{edit_of_code}
 use Rattle.cr_run.proofs.report.push_edits.Given as goal
 
-abbrev pub invariant-loop-offset : goal.invariant-loop-offset
-invariant-loop-offset l = l.text.items ++ flat_map edit_line (places_at l.path (drop l.offset-index l.offsets)) ≡ l.fn.text.items ++ flat_map edit_line (places_at l.path l.offsets)
+abbrev pub invariant-loop-edit : goal.invariant-loop-edit
+invariant-loop-edit l = l.text.items ++ flat_map edit_lines (map edit_of_code (drop l.edit-index l.edits)) ≡ l.fn.text.items ++ flat_map edit_lines (map edit_of_code l.edits)
