@@ -1,0 +1,2 @@
+pub mod IncludeSearch
+pub mod BuiltIns

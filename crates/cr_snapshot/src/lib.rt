@@ -1,0 +1,5 @@
+//! The files that a run knows.
+#![tactic(auto)]
+
+mod header;
+mod search;
