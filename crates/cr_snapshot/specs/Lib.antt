@@ -1,2 +1,5 @@
-pub mod IncludeSearch
 pub mod BuiltIns
+pub mod Files
+pub mod IncludeSearch
+pub mod Seen
+pub mod Tables

@@ -2,4 +2,9 @@
 #![tactic(auto)]
 
 mod header;
+mod known;
 mod search;
+mod snapshot;
+
+pub use known::KnownFile;
+pub use snapshot::{Found, Snapshot};

@@ -1,4 +1,4 @@
-use Rattle.std.proofs.Common.{◌≡◌, sym, ap}
+use Rattle.std.proofs.Common.{sym, ap}
 use Rattle.cr_snapshot.specs.BuiltIns as spec
 use Rattle.cr_snapshot.proofs.header.Header.text.Goals as goal
 
