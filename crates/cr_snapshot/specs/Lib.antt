@@ -3,3 +3,4 @@ pub mod Files
 pub mod IncludeSearch
 pub mod Seen
 pub mod Tables
+pub mod Totals

@@ -5,6 +5,7 @@ mod header;
 mod known;
 mod search;
 mod snapshot;
+mod totals;
 
 pub use known::KnownFile;
-pub use snapshot::{Found, Snapshot};
+pub use snapshot::{Found, KnowFault, Snapshot};

@@ -1,14 +1,16 @@
 //! The files that a run knows, and what each path holds.
-ghost use Rattle.std.specs.Prelude.{◌≡◌, ◌++◌, ◌∷◌, ◌<◌, [], length, slice_get, IfOk, OnOk, OnErr, Some};
+ghost use Rattle.std.specs.Prelude.{◌≡◌, ◌++◌, ◌∷◌, ◌<◌, [], length, slice_get, Err, true, IsTrue, IfOk, OnOk, OnErr, Some};
 ghost use Rattle.std.specs.Option.{option_map};
 ghost use Rattle.indexmap.specs.IndexMap.{values};
 ghost use Rattle.cr_snapshot.specs.Files as spec;
-ghost use Rattle.cr_snapshot.specs.Seen.{finding_of};
+ghost use Rattle.cr_snapshot.specs.Seen.{finding_of, file_of};
 ghost use Rattle.cr_snapshot.specs.IncludeSearch as search;
+ghost use Rattle.cr_snapshot.specs.declared.snapshot.KnowFault.TheVariants as fault;
 
-use crate::known::{KnownFile, built_ins};
+use crate::known::{KnownFile, built_ins, put};
 use crate::search::candidates;
-use cr_base::{OutOfMemory, PathNo, PathText, Unit};
+use crate::totals::{Totals, totals_with};
+use cr_base::{List, OutOfMemory, PathNo, PathText, Unit};
 use indexmap::IndexMap;
 use std::alloc::Global;
 use std::marker::Model;
@@ -29,6 +31,7 @@ pub enum Found<'a> {
 pub struct Snapshot {
     alloc: Global,
     files: IndexMap<Vec<u8>, KnownFile>,
+    totals: Totals,
 }
 
 impl Model for Snapshot {
@@ -37,12 +40,42 @@ impl Model for Snapshot {
     ghost use Rattle.cr_snapshot.specs.declared.known.KnownFile.{KnownFile};
     ghost use Rattle.cr_snapshot.specs.Files.{IsWithin};
     ghost use Rattle.cr_snapshot.specs.Tables.{IsKeyed};
+    ghost use Rattle.cr_snapshot.specs.Totals.{AreOf};
 
     ghost Value = { List KnownFile };
 
     ghost view = { λ s. values s.files };
 
-    ghost invariant = { λ s. IsKeyed (λ v. v.items) s.files.entries × IsWithin (values s.files) };
+    ghost invariant = { λ s. IsKeyed (λ v. v.items) s.files.entries × IsWithin (values s.files) × AreOf s.totals (values s.files) };
+}
+
+/// Why a path isn't made known.
+#[derive(Clone, Copy, Debug, PartialEq, Eq)]
+pub enum KnowFault {
+    /// A limit on files would be passed.
+    LimitFiles,
+    OutOfMemory,
+}
+
+impl From<OutOfMemory> for KnowFault {
+    ghost use Rattle.std.specs.Prelude.{◌≡◌};
+    ghost use Rattle.cr_snapshot.specs.declared.snapshot.KnowFault.TheVariants as fault;
+
+    ghost from_gives = { λ _ e. e ≡ fault.OutOfMemory };
+
+    fn from(_: OutOfMemory) -> Self {
+        KnowFault::OutOfMemory
+    }
+}
+
+fn known_file(path: PathText, found: Option<Vec<u8>>) -> KnownFile
+    ensures { result ≡ file_of path found }
+{
+    let found = match found {
+        None => None,
+        Some(bytes) => Some(List::of(bytes)),
+    };
+    KnownFile { path, found }
 }
 
 // What a known file tells.
@@ -61,7 +94,41 @@ impl Snapshot {
         ensures { IfOk result (λ snapshot. snapshot ≡ spec.built_ins) }
     {
         let files = built_ins(alloc)?;
-        Ok(Snapshot { alloc, files })
+        Ok(Snapshot {
+            alloc,
+            files,
+            totals: Totals {
+                paths: 0,
+                present: 0,
+                bytes: 0,
+            },
+        })
+    }
+
+    /// Makes a path known, with the bytes of its file where one is there, and answers its number, the
+    /// next one. The path isn't known yet.
+    ///
+    /// `LimitFiles` comes exactly where the file has more than 16,777,216 bytes, more than 65,536 files
+    /// would be there, they would have more than 536,870,912 bytes together, or more than 4,194,304
+    /// paths would be known; in the last three, paths that begin with `//` don't count. A refusal and
+    /// want of memory leave the snapshot as it was.
+    pub fn know(&mut self, path: PathText, found: Option<Vec<u8>>) -> Result<PathNo, KnowFault>
+        requires unknown { spec.finding path self.old ≡ spec.Unknown }
+        requires room { IsTrue (search.is_apart path) → spec.apart_paths self.old < 65536 }
+        ensures number { IfOk result (λ n. n.0 ≡ length self.old) }
+        ensures known { OnOk result (self.new ≡ self.old ++ file_of path found ∷ []) }
+        ensures limit { result ≡ Err fault.LimitFiles → spec.is_over self.old (file_of path found) ≡ true }
+        ensures over { spec.is_over self.old (file_of path found) ≡ true → result ≡ Err fault.LimitFiles }
+        ensures kept { OnErr result (self.new ≡ self.old) }
+    {
+        let file = known_file(path, found);
+        let Some(totals) = totals_with(self.totals, &file) else {
+            return Err(KnowFault::LimitFiles);
+        };
+        let n = self.files.len();
+        put(self.alloc, &mut self.files, file)?;
+        self.totals = totals;
+        Ok(PathNo(n as u32))
     }
 
     /// What is known of a path.
