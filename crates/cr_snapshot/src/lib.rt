@@ -5,6 +5,8 @@ mod header;
 mod known;
 mod search;
 mod snapshot;
+#[cfg(test)]
+mod tests;
 mod totals;
 
 pub use known::KnownFile;
