@@ -1,5 +1,5 @@
 -- The files that are known, as a list in the order of their numbers: own rule of this project.
-use Rattle.std.specs.Prelude.{◌≤◌, ◌+◌, ℕ, Bool, ◌||◌, List, [], ◌∷◌, ◌++◌, length, map, sum_by, nat_lt, bytes_eq, Option, Some, None, if◌then◌else◌}
+use Rattle.std.specs.Prelude.{◌≡◌, ◌≤◌, ◌+◌, ℕ, Bool, ◌||◌, List, [], ◌∷◌, ◌++◌, length, map, sum_by, nat_lt, bytes_eq, Option, Some, None, if◌then◌else◌}
 use Rattle.cr_base.specs.Path.{apart_path}
 use Rattle.cr_snapshot.specs.declared.known.KnownFile.{KnownFile}
 use Rattle.cr_snapshot.specs.declared.header.Header.{Header}
@@ -73,3 +73,13 @@ pub record IsWithin (files : List KnownFile) : Type 0 where
   pub bytes : present_bytes files ≤ 536870912
   pub known : known_paths files ≤ 4194304
   pub apart : apart_paths files ≤ 65536
+
+-- A file whose path was unknown is told by its path afterwards, with the next number.
+abbrev pub TellsTheNewFile : Type 0
+TellsTheNewFile = (files : List KnownFile) (file : KnownFile) → finding file.path files ≡ Unknown
+    → finding file.path (files ++ file ∷ []) ≡ told (length files) file.found
+
+-- What is known of a path stays, with its number, whatever is made known.
+abbrev pub StaysKnown : Type 0
+StaysKnown = (path : List ℕ) (files : List KnownFile) (file : KnownFile) → ¬ (finding path files ≡ Unknown)
+    → finding path (files ++ file ∷ []) ≡ finding path files

@@ -10,4 +10,4 @@ mod tests;
 mod totals;
 
 pub use known::KnownFile;
-pub use snapshot::{Found, KnowFault, Snapshot};
+pub use snapshot::{Found, KnowFault, Snapshot, known_files_stay_known};
