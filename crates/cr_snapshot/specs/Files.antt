@@ -1,5 +1,5 @@
 -- The files that are known, as a list in the order of their numbers: own rule of this project.
-use Rattle.std.specs.Prelude.{◌≡◌, ◌≤◌, ◌+◌, ℕ, Bool, ◌||◌, List, [], ◌∷◌, ◌++◌, length, map, sum_by, nat_lt, bytes_eq, Option, Some, None, if◌then◌else◌}
+use Rattle.std.specs.Prelude.{◌≡◌, ◌≤◌, ◌<◌, ◌+◌, slice_get, ℕ, Bool, ◌||◌, List, [], ◌∷◌, ◌++◌, length, map, sum_by, nat_lt, bytes_eq, Option, Some, None, if◌then◌else◌}
 use Rattle.cr_base.specs.Path.{apart_path}
 use Rattle.cr_snapshot.specs.declared.known.KnownFile.{KnownFile}
 use Rattle.cr_snapshot.specs.declared.header.Header.{Header}
@@ -83,3 +83,8 @@ TellsTheNewFile = (files : List KnownFile) (file : KnownFile) → finding file.p
 abbrev pub StaysKnown : Type 0
 StaysKnown = (path : List ℕ) (files : List KnownFile) (file : KnownFile) → ¬ (finding path files ≡ Unknown)
     → finding path (files ++ file ∷ []) ≡ finding path files
+
+-- The number of a file that is told is that of a known path, which holds these bytes.
+abbrev pub NumbersItsPath : Type 0
+NumbersItsPath = (path : List ℕ) (files : List KnownFile) (n : ℕ) (bytes : List ℕ) → finding path files ≡ Present n bytes
+    → (n < length files) × (slice_get files n ≡ Some (record { path = path; found = Some bytes }))

@@ -182,8 +182,9 @@ impl Snapshot {
 }
 
 /// A law over known files: what is known of a path stays known, with its number, and a file that is
-/// made known is told by its path. It does no work.
+/// made known is told by its path; and a number that is told is that of its path. It does no work.
 pub fn known_files_stay_known()
     ensures stays { spec.StaysKnown }
     ensures tells { spec.TellsTheNewFile }
+    ensures numbers { spec.NumbersItsPath }
 {}
