@@ -70,6 +70,19 @@ fn told_of(alloc: Global, tree: &mut MemTree, line: &str) -> Result<Answer, Fail
     Ok(Answer { status, out, err })
 }
 
+// Whether this was answered.
+fn is(told: &Answer, status: u8, out: &[u8], err: &[u8]) -> bool {
+    told.status == status && told.out.bytes() == out && told.err.bytes() == err
+}
+
+// Whether a file holds this text.
+fn holds(alloc: Global, tree: &MemTree, path: &str, text: &[u8]) -> Result<bool, Fail> {
+    match tree.get(&path_of(alloc, path)?) {
+        Some(bytes) => Ok(bytes == text),
+        None => Ok(false),
+    }
+}
+
 #[test]
 fn words_and_names_are_refused_with_their_line(rt: HostRuntime) -> Result<(), Fail> {
     let alloc = rt.alloc();
@@ -156,9 +169,7 @@ fn words_and_names_are_refused_with_their_line(rt: HostRuntime) -> Result<(), Fa
     ];
     for (line, status, err) in &cases {
         let told = told_of(alloc, &mut tree, line)?;
-        assert_eq!(rt; told.status, *status);
-        assert_eq!(rt; told.out.bytes(), b"".as_slice());
-        assert_eq!(rt; told.err.bytes(), *err);
+        assert!(rt; is(&told, *status, b"", err));
     }
     Ok(())
 }
@@ -237,9 +248,7 @@ fn one_file_is_renamed_or_refused(rt: HostRuntime) -> Result<(), Fail> {
         let mut tree = MemTree::new(alloc);
         put(alloc, &mut tree, "a.c", text)?;
         let told = told_of(alloc, &mut tree, line)?;
-        assert_eq!(rt; told.status, *status);
-        assert_eq!(rt; told.out.bytes(), *out);
-        assert_eq!(rt; told.err.bytes(), *err);
+        assert!(rt; is(&told, *status, out, err));
     }
     Ok(())
 }
@@ -253,11 +262,7 @@ fn a_database_is_refused_with_what_is_wrong(rt: HostRuntime) -> Result<(), Fail>
         &mut tree,
         "-p /w/no /w/a.c --offset 4 --new-name bar",
     )?;
-    assert_eq!(rt; absent.status, 3);
-    assert_eq!(rt;
-        absent.err.bytes(),
-        b"crename: database: absent\n".as_slice()
-    );
+    assert!(rt; is(&absent, 3, b"", b"crename: database: absent\n"));
     let cases: [(&[u8], &[u8]); 4] = [
         (b"[", b"crename: database: not json\n"),
         (b"{}", b"crename: database: not array\n"),
@@ -267,69 +272,63 @@ fn a_database_is_refused_with_what_is_wrong(rt: HostRuntime) -> Result<(), Fail>
     for (database, err) in &cases {
         put(alloc, &mut tree, "/w/db", database)?;
         let told = told_of(alloc, &mut tree, IN_PLACE)?;
-        assert_eq!(rt; told.status, 3);
-        assert_eq!(rt; told.out.bytes(), b"".as_slice());
-        assert_eq!(rt; told.err.bytes(), *err);
+        assert!(rt; is(&told, 3, b"", err));
     }
-    let kept = tree
-        .get(&path_of(alloc, "/w/a.c")?)
-        .ok_or("the file is gone")?;
-    assert_eq!(rt; kept, TWO_FUNCTIONS);
+    assert!(rt; holds(alloc, &tree, "/w/a.c", TWO_FUNCTIONS)?);
     Ok(())
+}
+
+// Two units before and after a rename with these words, and its report.
+#[derive(Drop)]
+struct Renamed {
+    line: &'static str,
+    report: &'static [u8],
+    before: (&'static [u8], &'static [u8]),
+    after: (&'static [u8], &'static [u8]),
+}
+
+const STATIC_OBJECT: Renamed = Renamed {
+    line: "-p /w/db /w/a.c --offset 11 --new-name bar -i",
+    report: b"renamed foo to bar\nunits 2, skipped 0, files 1, edits 2\nedit /w/a.c 11\nedit /w/a.c 35\n",
+    before: (
+        b"static int foo;\nint a(void){return foo;}\n",
+        b"int foo;\n",
+    ),
+    after: (
+        b"static int bar;\nint a(void){return bar;}\n",
+        b"int foo;\n",
+    ),
+};
+
+const SHARED_FUNCTION: Renamed = Renamed {
+    line: IN_PLACE,
+    report: b"renamed foo to bar\nunits 2, skipped 0, files 2, edits 3\nedit /w/a.c 4\nedit /w/a.c 34\nedit /w/b.c 4\n",
+    before: (
+        b"int foo(void);\nint a(void){return foo();}\n",
+        b"int foo(void){return 1;}\n",
+    ),
+    after: (
+        b"int bar(void);\nint a(void){return bar();}\n",
+        b"int bar(void){return 1;}\n",
+    ),
+};
+
+// Whether the rename does what it should.
+fn is_done(alloc: Global, case: &Renamed) -> Result<bool, Fail> {
+    let mut tree = two_units(alloc, case.before.0, case.before.1)?;
+    let told = told_of(alloc, &mut tree, case.line)?;
+    Ok(
+        is(&told, 0, case.report, b"")
+            && holds(alloc, &tree, "/w/a.c", case.after.0)?
+            && holds(alloc, &tree, "/w/b.c", case.after.1)?,
+    )
 }
 
 #[test]
 fn a_name_is_renamed_in_the_units_that_share_it(rt: HostRuntime) -> Result<(), Fail> {
     let alloc = rt.alloc();
-    let mut tree = two_units(
-        alloc,
-        b"static int foo;\nint a(void){return foo;}\n",
-        b"int foo;\n",
-    )?;
-    let told = told_of(
-        alloc,
-        &mut tree,
-        "-p /w/db /w/a.c --offset 11 --new-name bar -i",
-    )?;
-    assert_eq!(rt; told.status, 0);
-    assert_eq!(rt;
-        told.out.bytes(),
-        b"renamed foo to bar\nunits 2, skipped 0, files 1, edits 2\nedit /w/a.c 11\nedit /w/a.c 35\n".as_slice()
-    );
-    let first = tree
-        .get(&path_of(alloc, "/w/a.c")?)
-        .ok_or("the file is gone")?;
-    assert_eq!(rt;
-        first,
-        b"static int bar;\nint a(void){return bar;}\n".as_slice()
-    );
-    let second = tree
-        .get(&path_of(alloc, "/w/b.c")?)
-        .ok_or("the file is gone")?;
-    assert_eq!(rt; second, b"int foo;\n".as_slice());
-
-    let mut tree = two_units(
-        alloc,
-        b"int foo(void);\nint a(void){return foo();}\n",
-        b"int foo(void){return 1;}\n",
-    )?;
-    let told = told_of(alloc, &mut tree, IN_PLACE)?;
-    assert_eq!(rt; told.status, 0);
-    assert_eq!(rt;
-        told.out.bytes(),
-        b"renamed foo to bar\nunits 2, skipped 0, files 2, edits 3\nedit /w/a.c 4\nedit /w/a.c 34\nedit /w/b.c 4\n".as_slice()
-    );
-    let first = tree
-        .get(&path_of(alloc, "/w/a.c")?)
-        .ok_or("the file is gone")?;
-    assert_eq!(rt;
-        first,
-        b"int bar(void);\nint a(void){return bar();}\n".as_slice()
-    );
-    let second = tree
-        .get(&path_of(alloc, "/w/b.c")?)
-        .ok_or("the file is gone")?;
-    assert_eq!(rt; second, b"int bar(void){return 1;}\n".as_slice());
+    assert!(rt; is_done(alloc, &STATIC_OBJECT)?);
+    assert!(rt; is_done(alloc, &SHARED_FUNCTION)?);
     Ok(())
 }
 
@@ -341,48 +340,37 @@ fn a_unit_that_is_not_built_changes_no_file(rt: HostRuntime) -> Result<(), Fail>
     for second in &seconds {
         let mut tree = two_units(alloc, first, second)?;
         let told = told_of(alloc, &mut tree, IN_PLACE)?;
-        assert_eq!(rt; told.status, 20);
-        assert_eq!(rt; told.out.bytes(), b"".as_slice());
-        assert_eq!(rt; told.err.bytes(), b"crename: unbuilt: /w/b.c\n".as_slice());
-        let kept = tree
-            .get(&path_of(alloc, "/w/a.c")?)
-            .ok_or("the file is gone")?;
-        assert_eq!(rt; kept, first);
+        assert!(rt; is(&told, 20, b"", b"crename: unbuilt: /w/b.c\n"));
+        assert!(rt; holds(alloc, &tree, "/w/a.c", first)?);
     }
     Ok(())
 }
 
 #[test]
-fn faults_of_the_outside_have_their_status_and_line(rt: HostRuntime) -> Result<(), Fail> {
+fn a_failed_read_or_replace_is_told_with_its_path(rt: HostRuntime) -> Result<(), Fail> {
     let alloc = rt.alloc();
-    let mut tree = two_units(
-        alloc,
-        b"int foo(void);\nint a(void){return foo();}\n",
-        b"int foo(void){return 1;}\n",
-    )?;
+    let case = SHARED_FUNCTION;
+    let mut tree = two_units(alloc, case.before.0, case.before.1)?;
     tree.fail_read(2)?;
     let told = told_of(alloc, &mut tree, IN_PLACE)?;
-    assert_eq!(rt; told.status, 4);
-    assert_eq!(rt;
-        told.err.bytes(),
-        b"crename: read fault: /w/a.c\n".as_slice()
-    );
+    assert!(rt; is(&told, 4, b"", b"crename: read fault: /w/a.c\n"));
     tree.fail_replace(2)?;
     let told = told_of(alloc, &mut tree, IN_PLACE)?;
-    assert_eq!(rt; told.status, 16);
-    assert_eq!(rt; told.out.bytes(), b"".as_slice());
-    assert_eq!(rt;
-        told.err.bytes(),
-        b"crename: write fault: /w/b.c after 1 files\n".as_slice()
+    assert!(rt;
+        is(
+            &told,
+            16,
+            b"",
+            b"crename: write fault: /w/b.c after 1 files\n"
+        )
     );
-    let first = tree
-        .get(&path_of(alloc, "/w/a.c")?)
-        .ok_or("the file is gone")?;
-    assert_eq!(rt;
-        first,
-        b"int bar(void);\nint a(void){return bar();}\n".as_slice()
-    );
+    assert!(rt; holds(alloc, &tree, "/w/a.c", case.after.0)?);
+    Ok(())
+}
 
+#[test]
+fn a_failed_output_is_told(rt: HostRuntime) -> Result<(), Fail> {
+    let alloc = rt.alloc();
     let words = words_of(alloc, "a.c --offset 4 --new-name bar")?;
     let mut tree = MemTree::new(alloc);
     put(alloc, &mut tree, "a.c", TWO_FUNCTIONS)?;
