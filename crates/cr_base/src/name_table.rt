@@ -60,6 +60,11 @@ impl NameTable {
         &self.texts[name.0 as usize]
     }
 
+    /// The allocator that the table was made with.
+    pub fn alloc(&self) -> Global {
+        self.alloc
+    }
+
     /// How many texts the table holds.
     pub fn len(&self) -> usize
         ensures { result ≡ length self.now }

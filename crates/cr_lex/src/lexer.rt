@@ -38,7 +38,6 @@ fn line_from(bytes: &[u8], spot: Spot, at: usize) -> usize
 
 // The name of what is written in a token, and whether there is a join inside.
 fn name_of(
-    alloc: Global,
     names: &mut NameTable,
     bytes: &[u8],
     own: Own,
@@ -50,7 +49,7 @@ fn name_of(
     ensures err { OnErr result (names.new ≡ names.old) }
 {
     if has_join(bytes, own.at, own.end) {
-        let text = without_joins(alloc, bytes, own.at, own.end)?;
+        let text = without_joins(names.alloc(), bytes, own.at, own.end)?;
         let name = names.intern(&text)?;
         Ok((name, own.end != own.at + text.len()))
     } else {
@@ -70,7 +69,6 @@ fn place(file: PathNo, at: usize) -> Place
 }
 
 fn token_of(
-    alloc: Global,
     names: &mut NameTable,
     bytes: &[u8],
     file: PathNo,
@@ -87,7 +85,7 @@ fn token_of(
     ensures names { OnOk result (names.new ≡ with_text names.old (text_of (own_cells bytes.now own.at own.end))) }
     ensures err { OnErr result (names.new ≡ names.old) }
 {
-    let (text, joined) = name_of(alloc, names, bytes, own)?;
+    let (text, joined) = name_of(names, bytes, own)?;
     let site = place(file, own.at);
     Ok(PpTok {
         kind: own.kind,
@@ -134,12 +132,7 @@ impl Lexer {
     /// comes again at each further call. The bytes are those of the calls before. Where no memory is
     /// found, the lexer and the table of names are as they were.
     #[tactic(auto, unfolding(crate::specs::Lexers::left, crate::specs::Lexers::IsIn))]
-    pub fn next(
-        &mut self,
-        alloc: Global,
-        names: &mut NameTable,
-        bytes: &[u8],
-    ) -> Result<LexStep, OutOfMemory>
+    pub fn next(&mut self, names: &mut NameTable, bytes: &[u8]) -> Result<LexStep, OutOfMemory>
         requires bytes { length bytes.now ≤ 16777216 }
         requires room { length names.old < 2 ^ 32 - 1 }
         requires within { IsIn bytes.now self.old }
@@ -160,7 +153,7 @@ impl Lexer {
         if let Some(at) = first_trigraph(bytes, own.at, own.end) {
             return Ok(LexStep::Fault(LexFault::Trigraph(place(self.file, at))));
         }
-        let token = token_of(alloc, names, bytes, self.file, halt.spot, own)?;
+        let token = token_of(names, bytes, self.file, halt.spot, own)?;
         self.spot = behind_token(own, token.line as usize);
         Ok(LexStep::Token(token))
     }
@@ -186,7 +179,7 @@ pub fn lex(
     let mut lexer = Lexer::new(file);
     let mut tokens = Vec::new(alloc);
     loop {
-        match lexer.next(alloc, names, bytes)? {
+        match lexer.next(names, bytes)? {
             LexStep::Token(token) => tokens.push(token)?,
             LexStep::End => {
                 return Ok(Lexed {

@@ -204,7 +204,6 @@ fn joins_lines_and_white_space_are_told(rt: HostRuntime) -> Result<(), Fail> {
 }
 
 fn step(
-    alloc: Global,
     lexer: &mut Lexer,
     names: &mut NameTable,
     bytes: &[u8],
@@ -215,7 +214,7 @@ fn step(
     if bytes.len() > 100 || names.len() > 100 {
         return Err(OutOfMemory);
     }
-    lexer.next(alloc, names, bytes)
+    lexer.next(names, bytes)
 }
 
 #[test]
@@ -226,15 +225,15 @@ fn a_lexer_gives_the_same_one_by_one(rt: HostRuntime) -> Result<(), Fail> {
     let tokens = lexed.tokens.items();
     assert_eq!(rt; tokens.len(), 2);
     let mut lexer = Lexer::new(FILE);
-    assert!(rt; step(rt.alloc(), &mut lexer, &mut names, bytes)? == LexStep::Token(tokens[0]));
-    assert!(rt; step(rt.alloc(), &mut lexer, &mut names, bytes)? == LexStep::Token(tokens[1]));
+    assert!(rt; step(&mut lexer, &mut names, bytes)? == LexStep::Token(tokens[0]));
+    assert!(rt; step(&mut lexer, &mut names, bytes)? == LexStep::Token(tokens[1]));
     let place = Place {
         path: FILE,
         offset: 9,
     };
     let fault = LexStep::Fault(LexFault::OpenComment(place));
-    assert!(rt; step(rt.alloc(), &mut lexer, &mut names, bytes)? == fault);
-    assert!(rt; step(rt.alloc(), &mut lexer, &mut names, bytes)? == fault);
+    assert!(rt; step(&mut lexer, &mut names, bytes)? == fault);
+    assert!(rt; step(&mut lexer, &mut names, bytes)? == fault);
     Ok(())
 }
 
