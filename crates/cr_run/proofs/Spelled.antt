@@ -1,5 +1,5 @@
 -- Where the new name can't be spelled.
-use Rattle.std.proofs.Common.{◌≡◌, ℕ, Bool, true, false, ◌||◌, List, [], ◌∷◌, Option, Some, None, refl, sym, ap, ◌∙◌}
+use Rattle.std.proofs.Common.{◌≡◌, ℕ, Bool, true, false, ◌||◌, List, [], ◌∷◌, Option, Some, None, refl, ap, ◌∙◌}
 use Rattle.std.specs.Prelude.{bytes_eq}
 use Rattle.std.specs.Option.{option_map, option_or}
 use Rattle.std.specs.List.{list_any}
@@ -8,10 +8,10 @@ use Rattle.std.proofs.lemmas.Slice.Eq.{bytes_eq-Decides}
 use Rattle.cr_base.specs.declared.unit.Unit.{Unit as TranslationUnit}
 use Rattle.cr_world.specs.Outside.{Files}
 use Rattle.cr_small.specs.Renaming.{Target}
-use Rattle.cr_run.specs.Goal.{Goal, Refused}
-use Rattle.cr_run.specs.Survey.{Meaning, files_so_far, unspellable_at, unspellable, refusal_of_places}
+use Rattle.cr_run.specs.Goal.{Goal}
+use Rattle.cr_run.specs.Survey.{Meaning, unspellable_at, unspellable, refusal_of_places}
 use Rattle.cr_run.specs.Outcome.{refusal_of_spelling}
-use Rattle.cr_run.specs.Held.{Wanted, AreSurveyed, Holds, wanted_for, refusal_of_entries}
+use Rattle.cr_run.specs.Held.{AreSurveyed, Holds, wanted_for, refusal_of_entries}
 use Rattle.cr_run.specs.declared.survey.Survey.{Survey}
 use Rattle.cr_run.specs.declared.survey.Surveyed.{Surveyed}
 

@@ -7,8 +7,7 @@ use Rattle.std.proofs.lemmas.Option.{slice_get-map, slice_get_within, get_or_fro
 use Rattle.std.proofs.lemmas.List.Elements.{Contains-get_or}
 use Rattle.cr_base.specs.Names.{is_identifier}
 use Rattle.cr_base.specs.Substitution.{shifted, substituted}
-use Rattle.cr_base.specs.declared.token.PpKind.TheVariants.{Ident}
-use Rattle.cr_lex.specs.Lexing.{Token, Lexed, lexed}
+use Rattle.cr_lex.specs.Lexing.{Token, lexed}
 use Rattle.cr_lex.specs.Order.{AreInOrder, StandsInOrder}
 use Rattle.cr_lex.specs.Renaming.{is_among, is_refused, IsPlace, renamed_token, renamed, shifted_fault, KeepsLexing}
 use Rattle.cr_small.specs.Terminals.{is_name, terminal_of}

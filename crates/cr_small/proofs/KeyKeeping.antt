@@ -5,7 +5,7 @@ use Rattle.std.specs.Option.{option_map}
 use Rattle.std.specs.List.{zip, filter}
 use Rattle.std.proofs.lemmas.Option.{slice_get-map}
 use Rattle.cr_base.specs.Substitution.{substituted}
-use Rattle.cr_lex.specs.Lexing.{Token, Lexed, lexed}
+use Rattle.cr_lex.specs.Lexing.{Token, lexed}
 use Rattle.cr_lex.specs.Order.{StandsInOrder}
 use Rattle.cr_lex.specs.Renaming.{is_among, is_refused, renamed_token, KeepsLexing}
 use Rattle.cr_small.specs.Terminals.{is_name}
@@ -24,7 +24,6 @@ use Rattle.cr_small.proofs.KeyLaws.{keyed, keyed_so, Keyed, keyed-at, named, ord
 use Rattle.cr_small.proofs.Links.{pairs-alike, alike-at}
 use Rattle.cr_small.proofs.Placed.{PlacedAs}
 use Rattle.cr_small.proofs.Names.{text_of, texts-from, well-spelled}
-use Rattle.cr_small.proofs.Pairs.{resolves-length}
 
 places-same : (p q : Option Denotation → Bool) (ts : List Token) (ds : List (Option Denotation)) → ((j : ℕ) (x : Option Denotation) → slice_get ds j ≡ Some x → p x ≡ q x)
     → map (λ (one : Token × Option Denotation). one.0.at) (filter (λ one. p one.1) (zip ts ds)) ≡ map (λ (one : Token × Option Denotation). one.0.at) (filter (λ one. q one.1) (zip ts ds))
