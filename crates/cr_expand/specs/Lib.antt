@@ -12,3 +12,4 @@ pub mod Pasting
 pub mod Placing
 pub mod Heading
 pub mod Laws
+pub mod Uses
