@@ -1,0 +1,5 @@
+pub mod Tokens
+pub mod Following
+pub mod Searched
+pub mod Definitions
+pub mod Conditions
