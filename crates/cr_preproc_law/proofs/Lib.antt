@@ -3,3 +3,5 @@ pub mod Following
 pub mod Searched
 pub mod Definitions
 pub mod Conditions
+pub mod Directives
+pub mod Law
