@@ -1,5 +1,5 @@
 -- Worked examples, computed.
-use Rattle.std.specs.Prelude.{◌≡◌, ℕ, false, if◌then◌else◌, ◌&&◌, ◌||◌, ◌==◌, List, [], ◌∷◌, ◌++◌, flat_map, length, codes, bytes_eq, Option, Some, None, refl}
+use Rattle.std.specs.Prelude.{◌≡◌, ℕ, if◌then◌else◌, List, [], ◌∷◌, ◌++◌, flat_map, length, codes, bytes_eq, Option, Some, None, refl}
 use Rattle.cr_base.specs.declared.token.Place.{Place}
 use Rattle.cr_base.specs.declared.unit.Unit.{Unit}
 use Rattle.cr_base.specs.declared.cause.IllCause.TheVariants as cause
@@ -15,7 +15,7 @@ use Rattle.cr_cond.specs.Constants.{unsigned_suffixes, plain_suffixes}
 use Rattle.cr_expand.specs.OneToken as one
 use Rattle.cr_expand.specs.Tokens.{Event as Telling, Rule, Taken}
 use Rattle.cr_expand.specs.Expansion.{expand}
-use Rattle.cr_preproc.specs.Tasks.{Tokens, Includes, End, Ill, Over, Needs, Event, Took, Opened, Looked, Defined, Told, Final, Reply, Goes, Ends, Nothing, events_of}
+use Rattle.cr_preproc.specs.Tasks.{Tokens, Includes, End, Ill, Over, Needs, Event, Opened, Looked, Told, Final, Reply, Goes, Ends, Nothing, events_of}
 use Rattle.cr_preproc.specs.Search.{World}
 use Rattle.cr_preproc.specs.Preprocessing.{preprocessed, does_unit, at_first}
 use Rattle.cr_preproc.specs.PreprocessingRun.{steps}

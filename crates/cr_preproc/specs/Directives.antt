@@ -1,5 +1,5 @@
 -- Directives that aren't conditional (C11 6.10.2 to 6.10.7).
-use Rattle.std.specs.Prelude.{ℕ, ◌-◌, Bool, true, false, ◌&&◌, ◌||◌, if◌then◌else◌, List, [], ◌∷◌, ◌++◌, flat_map, length, take, drop, bytes_eq, codes, Option, Some, None, is_some}
+use Rattle.std.specs.Prelude.{◌-◌, Bool, true, false, ◌&&◌, ◌||◌, if◌then◌else◌, List, [], ◌∷◌, ◌++◌, flat_map, length, take, drop, bytes_eq, codes, Option, Some, None, is_some}
 use Rattle.cr_base.specs.declared.token.PpKind.{PpKind}
 use Rattle.cr_base.specs.declared.token.PpKind.TheVariants.{Str}
 use Rattle.cr_base.specs.declared.token.Place.{Place}
@@ -10,7 +10,7 @@ use Rattle.cr_base.specs.declared.unit.Unit.{Unit}
 use Rattle.cr_snapshot.specs.IncludeSearch.{candidates}
 use Rattle.cr_expand.specs.Tokens.{Text, Token, MacroText, is_ident, is_mark, has}
 use Rattle.cr_expand.specs.Substitution.{param}
-use Rattle.cr_preproc.specs.Tasks.{Ill, Needs, Event, Opened, Looked, Defined, State, Task, Nothing, ◌>>>◌, ready, ends, tell, look, change, marks, in_directive}
+use Rattle.cr_preproc.specs.Tasks.{Ill, Needs, Event, Looked, Defined, State, Task, Nothing, ◌>>>◌, ready, ends, tell, look, change, marks, in_directive}
 use Rattle.cr_preproc.specs.Lines.{File, file_of}
 use Rattle.cr_preproc.specs.Definition.{Definition, definition, undefined_name}
 use Rattle.cr_preproc.specs.Search.{World, Search, Finds, Misses, Lacks, search, looked_for}

@@ -1,6 +1,5 @@
 -- A file as lines of preprocessing tokens, and what a line is (C11 6.10p1, p2).
 use Rattle.std.specs.Prelude.{ℕ, Bool, false, if◌then◌else◌, List, [], ◌∷◌, bytes_eq, codes, Option, Some, None}
-use Rattle.cr_base.specs.declared.token.PathNo.{PathNo}
 use Rattle.cr_base.specs.declared.token.Place.{Place}
 use Rattle.cr_base.specs.declared.token.Origin.TheVariants.{At}
 use Rattle.cr_base.specs.declared.cause.IllCause.TheVariants as cause

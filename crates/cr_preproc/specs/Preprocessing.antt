@@ -1,7 +1,6 @@
 -- The preprocessing of a translation unit (C11 5.1.1.2, phase 4; 6.10): the text that its command words make, and then
 -- its main file.
 use Rattle.std.specs.Prelude.{ℕ, zero, suc, Bool, true, false, ◌&&◌, if◌then◌else◌, List, [], ◌∷◌, ◌++◌, length, take, replicate, Option, Some, None}
-use Rattle.cr_base.specs.declared.token.Place.{Place}
 use Rattle.cr_base.specs.declared.cause.IllCause.TheVariants as cause
 use Rattle.cr_base.specs.declared.cause.Role.TheVariants as role
 use Rattle.cr_base.specs.declared.unit.Unit.{Unit}

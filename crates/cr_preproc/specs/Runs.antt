@@ -2,14 +2,13 @@
 -- a call over several lines, 6.10.3p11 makes a directive inside one undefined; that a run is one list is an own rule of
 -- this project).
 use Rattle.std.specs.Prelude.{ℕ, zero, suc, ◌+◌, Bool, true, false, if◌then◌else◌, List, [], ◌∷◌, ◌++◌, length}
-use Rattle.cr_base.specs.declared.token.Place.{Place}
 use Rattle.cr_base.specs.declared.cause.IllCause.{IllCause}
 use Rattle.cr_base.specs.declared.cause.IllCause.TheVariants as cause
 use Rattle.cr_expand.specs.Tokens.{Text, Token}
 use Rattle.cr_expand.specs.Substitution.{in_quotes, escaped}
 use Rattle.cr_expand.specs.Expansion.{Table, Use, use_of, expand}
 use Rattle.cr_expand.specs.Uses.{put_for, is_given, left_behind}
-use Rattle.cr_preproc.specs.Tasks.{Limit, Macros, End, Ill, Over, Needs, State, Reply, Goes, Ends, Task, Nothing, ◌>>>◌, ready, ends, does, gives, events_of}
+use Rattle.cr_preproc.specs.Tasks.{Macros, End, Ill, Over, Needs, State, Reply, Goes, Ends, Task, Nothing, ◌>>>◌, ready, ends, does, gives, events_of}
 
 -- the macros of a state, in the file at a path
 abbrev pub table_in : Text → State → Table

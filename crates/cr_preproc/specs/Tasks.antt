@@ -1,6 +1,6 @@
 -- What preprocessing does, and how it ends: a part of it is a task, in which things happen until it is done or ends
 -- the unit.
-use Rattle.std.specs.Prelude.{ℕ, ◌-◌, nat_lt, if◌then◌else◌, List, [], ◌∷◌, ◌++◌, map, length, Option}
+use Rattle.std.specs.Prelude.{ℕ, ◌-◌, nat_lt, if◌then◌else◌, List, [], ◌++◌, map, length, Option}
 use Rattle.cr_base.specs.declared.token.Place.{Place}
 use Rattle.cr_base.specs.declared.cause.Role.{Role}
 use Rattle.cr_base.specs.declared.cause.IllCause.{IllCause}

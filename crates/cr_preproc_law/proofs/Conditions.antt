@@ -1,5 +1,5 @@
 -- Conditionals are the same.
-use Rattle.std.proofs.Common.{◌≡◌, ℕ, zero, suc, Bool, true, false, cond, List, [], ◌∷◌, ◌++◌, map, refl, ap, sym, ◌∙◌, subst, Some, None, Option}
+use Rattle.std.proofs.Common.{◌≡◌, ℕ, zero, suc, Bool, true, false, cond, List, [], ◌∷◌, ◌++◌, map, refl, ap, sym, ◌∙◌, Some, None, Option}
 use Rattle.std.specs.Prelude.{is_some, flat_map, option_map, not, ◌||◌, codes, Result, Ok, Err, ℤ}
 use Rattle.cr_base.specs.Names.{is_reserved}
 use Rattle.cr_base.specs.declared.token.PpKind.TheVariants.{Number}
@@ -11,14 +11,14 @@ use Rattle.cr_cond.specs.Value.{is_zero_int, is_defined, value_of, numbered}
 use Rattle.cr_expand.specs.Tokens.{Text, Token, MacroText, is_ident, is_mark}
 use Rattle.cr_expand.specs.Substitution.{made, only_if}
 use Rattle.cr_expand.specs.Expansion.{predefined_named}
-use Rattle.cr_expand_law.specs.Renaming.{Renaming, is_renamed, shifted, renamed, all_renamed, renamed_macro, KeepsExpansion}
+use Rattle.cr_expand_law.specs.Renaming.{Renaming, shifted, renamed, all_renamed, renamed_macro, KeepsExpansion}
 use Rattle.cr_expand_law.specs.Uses.{KeepsUses}
-use Rattle.cr_preproc.specs.Tasks.{Ill, Event, State, Task, ◌>>>◌, look, tell, only, ends, marks, in_directive}
+use Rattle.cr_preproc.specs.Tasks.{Ill, State, Task, ◌>>>◌, look, tell, only, ends, marks, in_directive}
 use Rattle.cr_preproc.specs.Lines.{Word, If, Ifdef, Ifndef, Elif, Else, Endif}
 use Rattle.cr_preproc.specs.Runs.{expands}
-use Rattle.cr_preproc.specs.Conditionals.{OpenIf, Group, Taken, Before, Past, is_live, group_if, opened, is_macro, lexeme_of, Piece, Other, Asks, in_parentheses, asked, pieces, answered, asking, cause_of, is_true, condition, is_named, elif_in, group_of_else, elif, begun, conditional, is_live_around, is_word_live}
+use Rattle.cr_preproc.specs.Conditionals.{OpenIf, Group, Taken, Before, Past, is_live, group_if, opened, is_macro, lexeme_of, Piece, Other, Asks, in_parentheses, asked, pieces, answered, asking, cause_of, is_true, condition, is_named, elif_in, group_of_else, begun, conditional, is_live_around, is_word_live}
 use Rattle.cr_preproc_law.specs.Renaming.{renamed_state, IsSame, AreSame}
-use Rattle.cr_preproc_law.proofs.Tokens.{AreFine, renamed_events, all_shifted, same_token, all_same, of_controlling, all_marked_same, marks_renamed, both_renamed, all_marks_renamed}
+use Rattle.cr_preproc_law.proofs.Tokens.{renamed_events, all_shifted, same_token, all_same, of_controlling, all_marked_same, marks_renamed, both_renamed, all_marks_renamed}
 use Rattle.cr_preproc_law.proofs.Following.{Sim, sim_then, sim_only, sim_ends, sim_look, sim_told, sim_tell, sim_to, sim_if, sim_in_directive, same, sim_expands}
 
 same_some : (r : Renaming) (o : Option MacroText) → is_some (option_map (renamed_macro r) o) ≡ is_some o

@@ -1,6 +1,6 @@
 -- Definitions are the same, but for the name in bodies.
-use Rattle.std.proofs.Common.{◌≡◌, ℕ, zero, suc, ◌+◌, ◌-◌, Bool, true, false, cond, List, [], ◌∷◌, ◌++◌, length, map, take, drop, refl, ap, sym, ◌∙◌, subst, Some, None, Option}
-use Rattle.std.specs.Prelude.{is_some, codes, not, ◌||◌, ◌&&◌, bytes_eq, position, slice_get, flat_map, option_map, fold, nat_lt}
+use Rattle.std.proofs.Common.{◌≡◌, ℕ, ◌+◌, ◌-◌, Bool, true, false, cond, List, [], ◌∷◌, ◌++◌, length, map, take, drop, refl, ap, sym, ◌∙◌, subst, Some, None, Option}
+use Rattle.std.specs.Prelude.{is_some, codes, not, ◌||◌, ◌&&◌, bytes_eq, slice_get, flat_map, option_map, fold, nat_lt}
 use Rattle.std.specs.List.{list_any, prefix_len, position_or_len, slice_split, onto_first, AllByRecursion}
 use Rattle.std.proofs.lemmas.List.{length-map, take-map, drop-map}
 use Rattle.std.proofs.lemmas.Option.{slice_get-map}
@@ -10,7 +10,7 @@ use Rattle.cr_base.specs.declared.cause.Role.TheVariants.{Param, Directive}
 use Rattle.cr_expand.specs.Tokens.{Text, Token, MacroText, is_ident, is_mark}
 use Rattle.cr_expand.specs.Substitution.{is_hash, param, next_param}
 use Rattle.cr_expand_law.specs.Renaming.{Renaming, is_renamed, shifted, renamed, all_renamed, renamed_macro, IsNoParameter}
-use Rattle.cr_preproc.specs.Tasks.{Event, marks}
+use Rattle.cr_preproc.specs.Tasks.{marks}
 use Rattle.cr_preproc.specs.Definition.{is_rest, is_free_name, Params, pieces, after_piece, params_of, object_like, function_like, begins_params, close_of, with_params, macro_of, inside_of, parameters_of, is_paste_at, has_pastes_inside, has_params_behind_hashes, has_good_hashes, is_good, Definition, if_good, definition}
 use Rattle.cr_preproc.specs.Directives.{all_marks, parameter_marks, definition_marks}
 use Rattle.cr_preproc_law.specs.Renaming.{IsUncaptured, IsSame, AreSame}

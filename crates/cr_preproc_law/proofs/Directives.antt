@@ -1,25 +1,24 @@
 -- Directives do the same.
-use Rattle.std.proofs.Common.{◌≡◌, ℕ, Bool, true, false, cond, List, [], ◌∷◌, ◌++◌, map, refl, ap, sym, ◌∙◌, subst, Some, None, Option}
+use Rattle.std.proofs.Common.{◌≡◌, Bool, true, false, cond, List, [], ◌∷◌, ◌++◌, refl, ap, sym, ◌∙◌, subst, Some, None, Option}
 use Rattle.std.proofs.Math.Path.{fun_ext}
-use Rattle.std.specs.Prelude.{is_some, flat_map, codes, ◌||◌, ◌&&◌, bytes_eq, option_map}
+use Rattle.std.specs.Prelude.{flat_map, codes, ◌||◌, ◌&&◌, bytes_eq, option_map}
 use Rattle.std.specs.List.{AllByRecursion}
 use Rattle.cr_base.specs.Names.{is_reserved}
 use Rattle.cr_base.specs.declared.token.Place.{Place}
 use Rattle.cr_base.specs.declared.cause.IllCause.TheVariants as cause
 use Rattle.cr_base.specs.declared.cause.Role.TheVariants.{Param, Directive, Opaque}
 use Rattle.cr_base.specs.declared.unit.Unit.{Unit}
-use Rattle.cr_snapshot.specs.Files.{Finding}
 use Rattle.cr_snapshot.specs.IncludeSearch.{candidates}
 use Rattle.cr_expand.specs.Tokens.{Text, Token, MacroText, is_ident, is_mark}
-use Rattle.cr_expand_law.specs.Renaming.{Renaming, is_renamed, shifted, renamed, all_renamed, renamed_macro, IsNoParameter, KeepsExpansion}
+use Rattle.cr_expand_law.specs.Renaming.{Renaming, renamed, all_renamed, renamed_macro, IsNoParameter, KeepsExpansion}
 use Rattle.cr_expand_law.specs.Uses.{KeepsUses}
 use Rattle.cr_preproc.specs.Tasks.{Ill, Event, Defined, State, Goes, Task, Nothing, Done, ◌>>>◌, ready, ends, tell, change, marks, in_directive}
 use Rattle.cr_preproc.specs.Definition.{is_free_name, Definition, definition, undefined_name}
 use Rattle.cr_preproc.specs.Search.{World}
 use Rattle.cr_preproc.specs.Runs.{expands}
-use Rattle.cr_preproc.specs.Directives.{Opening, Header, all_marks, to_greater, quoted, is_string_kind, angled, header_name, site_of, opens, includes_header, includes_expanded, includes, with_macro, parameter_marks, definition_marks, defines, undefines, begins_with_once, pragma, plain_directive, directive}
-use Rattle.cr_preproc_law.specs.Renaming.{renamed_state, IsUncaptured, IsSame, AreSame}
-use Rattle.cr_preproc_law.proofs.Tokens.{AreFine, renamed_events, all_shifted, fine_left, fine_right, same_token, all_same, mark_same, of_directive, of_param, marked_same, all_marked_same, marks_renamed, both_renamed, all_marks_renamed}
+use Rattle.cr_preproc.specs.Directives.{Opening, Header, all_marks, to_greater, angled, header_name, site_of, includes_header, includes_expanded, includes, with_macro, parameter_marks, definition_marks, defines, undefines, begins_with_once, pragma, plain_directive, directive}
+use Rattle.cr_preproc_law.specs.Renaming.{renamed_state, IsSame, AreSame}
+use Rattle.cr_preproc_law.proofs.Tokens.{renamed_events, all_shifted, fine_left, fine_right, same_token, all_same, of_directive, of_param, marked_same, all_marked_same, marks_renamed, both_renamed, all_marks_renamed}
 use Rattle.cr_preproc_law.proofs.Following.{Good, Sim, sim_then, sim_only, sim_ends, sim_told, sim_tell, sim_to, sim_if, sim_in_directive, same, sim_expands}
 use Rattle.cr_preproc_law.proofs.Searched.{IsRenamedFinding, Enters, sim_opens}
 use Rattle.cr_preproc_law.proofs.Definitions.{renamed_definition, IsKept, kept_definition, no_parameters, definition_renamed}

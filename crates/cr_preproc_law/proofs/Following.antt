@@ -1,18 +1,18 @@
 -- Tasks that follow other tasks: they do the same, seen through a renaming.
-use Rattle.std.proofs.Common.{◌≡◌, ℕ, zero, suc, ◌+◌, ◌-◌, Bool, true, false, cond, List, [], ◌∷◌, ◌++◌, length, map, refl, ap, sym, ◌∙◌, subst, Some, None, Option}
+use Rattle.std.proofs.Common.{◌≡◌, ℕ, zero, suc, ◌+◌, ◌-◌, Bool, true, false, cond, List, [], ◌∷◌, ◌++◌, length, map, refl, ap, sym, ◌∙◌, subst, Some, None}
 use Rattle.std.proofs.lemmas.List.{map-append, length-map}
-use Rattle.std.specs.Prelude.{nat_lt, option_map}
+use Rattle.std.specs.Prelude.{nat_lt}
 use Rattle.std.specs.List.{AllByRecursion}
 use Rattle.cr_base.specs.Names.{is_reserved}
 use Rattle.cr_base.specs.declared.token.Place.{Place}
 use Rattle.cr_expand.specs.Tokens.{Text, Token, MacroText, Event as Telling, Answer, Gave, Stopped}
 use Rattle.cr_expand.specs.Expansion.{Table, Use, use_of, expand}
 use Rattle.cr_expand.specs.Uses.{put_for, is_given, left_behind}
-use Rattle.cr_expand_law.specs.Renaming.{Renaming, renamed, all_renamed, renamed_macro, renamed_table, renamed_event as renamed_telling, IsNoParameter, IsFree, IsHarmless, KeepsExpansion}
+use Rattle.cr_expand_law.specs.Renaming.{Renaming, renamed, all_renamed, renamed_table, renamed_event as renamed_telling, IsNoParameter, IsFree, IsHarmless, KeepsExpansion}
 use Rattle.cr_expand_law.specs.Uses.{KeepsUses}
-use Rattle.cr_preproc.specs.Tasks.{Tokens, Macros, Reading, End, Over, Event, Told, Final, State, Reply, Goes, Ends, Task, Nothing, Done, behind, go_on, ◌>>>◌, only, ends, tell, look, reads, gives, from_answer, does, at_place, in_directive}
-use Rattle.cr_preproc.specs.Runs.{table_in, expands, run_on, run_by, run_rules, runs_within, runs, after_run, inside}
-use Rattle.cr_preproc_law.specs.Renaming.{renamed_state, renamed_event, IsFine}
+use Rattle.cr_preproc.specs.Tasks.{Tokens, Macros, Reading, End, Over, Event, Told, Final, State, Reply, Goes, Ends, Task, Nothing, Done, behind, go_on, ◌>>>◌, only, ends, tell, look, reads, gives, from_answer, at_place, in_directive}
+use Rattle.cr_preproc.specs.Runs.{table_in, expands, run_on, run_rules, runs_within, runs, after_run, inside}
+use Rattle.cr_preproc_law.specs.Renaming.{renamed_state, renamed_event}
 use Rattle.cr_preproc_law.proofs.Tokens.{AreFine, renamed_events, fine_left, fine_right}
 
 -- no macro of the state has the new name, or captures it

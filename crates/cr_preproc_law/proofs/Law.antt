@@ -1,28 +1,27 @@
 -- A renaming keeps the preprocessing of a unit.
 use Rattle.std.proofs.Common.{◌≡◌, ℕ, zero, suc, Bool, true, false, cond, List, [], ◌∷◌, ◌++◌, length, map, refl, ap, sym, ◌∙◌, subst, Some, None, Option}
-use Rattle.std.proofs.lemmas.List.{map-append, length-map, take-map}
-use Rattle.std.specs.Prelude.{codes, replicate, take, bytes_eq, option_map, ◌&&◌}
+use Rattle.std.proofs.lemmas.List.{map-append, length-map}
+use Rattle.std.specs.Prelude.{replicate, option_map}
 use Rattle.std.specs.List.{AllByRecursion}
 use Rattle.cr_base.specs.Names.{is_reserved}
 use Rattle.cr_base.specs.declared.token.Place.{Place}
 use Rattle.cr_base.specs.declared.cause.IllCause.TheVariants as cause
 use Rattle.cr_base.specs.declared.cause.Role.TheVariants as role
 use Rattle.cr_base.specs.declared.unit.Unit.{Unit}
-use Rattle.cr_snapshot.specs.Files.{Finding}
 use Rattle.cr_expand.specs.Tokens.{Text, Token, is_ident}
 use Rattle.cr_expand.specs.Substitution.{is_hash}
 use Rattle.cr_expand_law.specs.Renaming.{Renaming, renamed, all_renamed, KeepsExpansion}
 use Rattle.cr_expand_law.specs.Uses.{KeepsUses}
-use Rattle.cr_preproc.specs.Tasks.{Includes, End, Ill, Over, Event, Took, Opened, State, Reply, Goes, Ends, Task, Nothing, Done, ◌>>>◌, only, ends, tell, look, marks, reads}
-use Rattle.cr_preproc.specs.Lines.{File, Word, Line, Plain, Conditional, Directive, Empty, Wordless, place_in, by_word, behind_hash, word_of, line_of}
+use Rattle.cr_preproc.specs.Tasks.{Includes, End, Ill, Over, Event, Took, Opened, State, Goes, Task, Nothing, Done, ◌>>>◌, only, ends, tell, look, marks, reads}
+use Rattle.cr_preproc.specs.Lines.{Word, Line, Plain, Conditional, Directive, Empty, Wordless, place_in, by_word, behind_hash, word_of, line_of}
 use Rattle.cr_preproc.specs.Search.{World, words_path}
 use Rattle.cr_preproc.specs.Runs.{runs, inside}
 use Rattle.cr_preproc.specs.Conditionals.{OpenIf, is_live, conditional, is_word_live}
-use Rattle.cr_preproc.specs.Directives.{Opening, opens, directive}
+use Rattle.cr_preproc.specs.Directives.{Opening, directive}
 use Rattle.cr_preproc.specs.Preprocessing.{Ahead, ahead, where_live, by_line, at_end, run_with, takes_line, does_lines, does_file, levels, does_first_file, does_unit, at_first, preprocessed}
-use Rattle.cr_preproc_law.specs.Renaming.{renamed_end, renamed_file, renamed_state, renamed_event, IsSame, AreSame, IsApartIn, IsApart, AreApart, IsFine}
-use Rattle.cr_preproc_law.proofs.Tokens.{AreFine, renamed_events, same_token, hash_same, marks_renamed}
-use Rattle.cr_preproc_law.proofs.Following.{Good, Follows, Sim, sim_then, sim_only, sim_ends, sim_look, sim_tell, sim_to, sim_inside, same, sim_reads, sim_runs}
+use Rattle.cr_preproc_law.specs.Renaming.{renamed_end, renamed_state, renamed_event, IsSame, IsApartIn, IsApart, IsFine}
+use Rattle.cr_preproc_law.proofs.Tokens.{renamed_events, same_token, hash_same, marks_renamed}
+use Rattle.cr_preproc_law.proofs.Following.{Follows, Sim, sim_then, sim_only, sim_ends, sim_look, sim_tell, sim_to, sim_inside, same, sim_reads, sim_runs}
 use Rattle.cr_preproc_law.proofs.Searched.{IsRenamedFinding, Enters, sim_opens}
 use Rattle.cr_preproc_law.proofs.Conditions.{shifted_ifs, live_same, word_live_same, sim_conditional}
 use Rattle.cr_preproc_law.proofs.Directives.{HasNoParameter, sim_directive}

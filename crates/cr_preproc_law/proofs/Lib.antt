@@ -5,3 +5,4 @@ pub mod Definitions
 pub mod Conditions
 pub mod Directives
 pub mod Law
+pub mod Edited

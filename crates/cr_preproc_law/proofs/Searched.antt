@@ -1,12 +1,12 @@
 -- The same files are looked for and found.
-use Rattle.std.proofs.Common.{◌≡◌, ℕ, Bool, true, false, cond, List, [], ◌∷◌, ◌++◌, refl, ap, sym, ◌∙◌, subst}
+use Rattle.std.proofs.Common.{◌≡◌, ℕ, cond, List, [], ◌∷◌, ◌++◌, refl, ap, sym, ◌∙◌, subst}
 use Rattle.cr_base.specs.declared.token.Place.{Place}
 use Rattle.cr_base.specs.declared.cause.IllCause.TheVariants as cause
 use Rattle.cr_snapshot.specs.Files.{Finding, Present, Absent, Unknown}
 use Rattle.cr_snapshot.specs.IncludeSearch.{is_apart}
 use Rattle.cr_expand.specs.Tokens.{Text, has}
 use Rattle.cr_expand_law.specs.Renaming.{Renaming}
-use Rattle.cr_preproc.specs.Tasks.{Looked, Needs, Ill, Nothing, Done, Task, ◌>>>◌, look, tell, ends, ready}
+use Rattle.cr_preproc.specs.Tasks.{Looked, Needs, Ill, Done, look, tell, ends, ready}
 use Rattle.cr_preproc.specs.Lines.{File, file_of}
 use Rattle.cr_preproc.specs.Search.{World, Search, Finds, Misses, Lacks, search, unknown, looked_for}
 use Rattle.cr_preproc.specs.Directives.{Opening, opens_found, looks, opens}

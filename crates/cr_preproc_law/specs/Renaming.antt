@@ -1,5 +1,5 @@
 -- Files with a new name in the place of an old one, and what that does to the preprocessing of a unit.
-use Rattle.std.specs.Prelude.{◌≡◌, ℕ, Bool, true, false, List, [], ◌∷◌, length, map, bytes_eq, codes, Option, Some, None, option_map}
+use Rattle.std.specs.Prelude.{◌≡◌, ℕ, true, false, List, length, map, bytes_eq, codes, None, option_map}
 use Rattle.std.specs.List.{AllByRecursion}
 use Rattle.cr_base.specs.Names.{is_identifier, is_reserved}
 use Rattle.cr_base.specs.Substitution.{Rise, substituted, shifted as shifted_offset}
