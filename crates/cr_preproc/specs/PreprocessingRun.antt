@@ -1,8 +1,9 @@
 -- The states of a unit's preprocessing, one for each of its steps.
-use Rattle.std.specs.Prelude.{ℕ, zero, suc, Bool, true, false, if◌then◌else◌, List, [], ◌∷◌, flat_map, count_by}
+use Rattle.std.specs.Prelude.{◌≡◌, ◌⊎◌, ◌++◌, ℕ, zero, suc, Bool, true, false, if◌then◌else◌, List, [], ◌∷◌, flat_map, count_by}
 use Rattle.cr_base.specs.declared.unit.Unit.{Unit}
-use Rattle.cr_expand.specs.Tokens.{Token, Event as Telling, Rule, Taken}
-use Rattle.cr_preproc.specs.Tasks.{Event, Took, Opened, Looked, Defined, Told, Final, events_of}
+use Rattle.cr_expand.specs.Tokens.{Text, Token, Event as Telling, Rule, Taken}
+use Rattle.cr_snapshot.specs.Files.{Unknown}
+use Rattle.cr_preproc.specs.Tasks.{Reply, End, Ill, Over, Needs, Goes, Ends, Nothing, Event, Took, Opened, Looked, Defined, Told, Final, events_of}
 use Rattle.cr_preproc.specs.Search.{World}
 use Rattle.cr_preproc.specs.Preprocessing.{preprocessed}
 
@@ -47,3 +48,22 @@ final_of (Final t) = t ∷ []
 
 abbrev pub final_tokens : List Event → List Token
 final_tokens = flat_map final_of
+
+-- v knows all that w knows, with the same finding and number
+pub record Agrees (w v : World) : Type 0 where
+  pub known : (path : Text) → (w.find path ≡ Unknown) ⊎ ((v.find path ≡ w.find path) × (v.number path ≡ w.number path))
+
+abbrev pub IsLargerEnd : End → List Event → Reply Nothing → Type 0
+IsLargerEnd (Ill why site) events reply = reply ≡ Ends (Ill why site) events
+IsLargerEnd (Over limit) events reply = reply ≡ Ends (Over limit) events
+IsLargerEnd (Needs paths) events reply = (more : List Event) × (events_of reply ≡ events ++ more)
+
+-- the same, or where files were wanted the same first
+abbrev pub IsLarger : Reply Nothing → Reply Nothing → Type 0
+IsLarger (Goes d s events) reply = reply ≡ Goes d s events
+IsLarger (Ends end events) reply = IsLargerEnd end events reply
+
+-- Where more is known, a unit that wanted no file does the same, and one that wanted files does the same first: its
+-- states are the same at the same positions.
+abbrev pub GoesOn : Type 0
+GoesOn = (w v : World) (u : Unit) → Agrees w v → IsLarger (preprocessed w u) (preprocessed v u)
