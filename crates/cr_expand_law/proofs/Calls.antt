@@ -6,9 +6,9 @@ use Rattle.std.proofs.lemmas.List.{map-append, length-map}
 use Rattle.std.proofs.lemmas.Slice.Eq.{bytes_eq-Decides}
 use Rattle.cr_base.specs.Names.{is_reserved}
 use Rattle.cr_base.specs.declared.token.PpKind.{PpKind}
-use Rattle.cr_expand.specs.Tokens.{Text, Token, MacroText, Cause, ArgCount, OpenCall, BadPaste, Over, is_mark, is_ident, has}
-use Rattle.cr_expand.specs.Substitution.{Args}
-use Rattle.cr_expand.specs.Expansion.{Table, Use, Keep, Predefined, Object, Call, Wrong, predefined, found_after, closed_by, to_close, into_first, parted, arguments, counted_call, closed_call, call_of, use_by_params, use_of_macro, use_of_name, use_of}
+use Rattle.cr_macros.specs.Tokens.{Text, Token, MacroText, Cause, ArgCount, OpenCall, BadPaste, Over, is_mark, is_ident, has}
+use Rattle.cr_macros.specs.Substitution.{Args}
+use Rattle.cr_macros.specs.Expansion.{Table, Use, Keep, Predefined, Object, Call, Wrong, predefined, found_after, closed_by, to_close, into_first, parted, arguments, counted_call, closed_call, call_of, use_by_params, use_of_macro, use_of_name, use_of}
 use Rattle.cr_expand_law.specs.Renaming.{Renaming, shifted, renamed, all_renamed, renamed_macro, renamed_table, IsNoParameter, IsFree}
 use Rattle.cr_expand_law.proofs.Renamed.{mark_same}
 use Rattle.cr_expand_law.proofs.Items.{renamed_args}

@@ -6,10 +6,10 @@ use Rattle.std.proofs.lemmas.List.{map-append}
 use Rattle.cr_base.specs.declared.token.PpKind.{PpKind}
 use Rattle.cr_base.specs.declared.token.PpKind.TheVariants.{Str}
 use Rattle.cr_base.specs.declared.cause.Role.TheVariants.{MacroName, Stringized, Pasted, Dropped}
-use Rattle.cr_expand.specs.OneToken.{one_token, is_string}
-use Rattle.cr_expand.specs.Tokens.{Text, Token, MacroText, Event, BadPaste, Work, ◌>>=◌, give, fail, note, takes, both, is_mark, with_names}
-use Rattle.cr_expand.specs.Substitution.{Item, Stays, Spelt, Bare, Full, CommaRest, Paste, item_by, item_at, items, body_items, only_if, next_is, next_param, with_token, pasted_rest, param, is_hash, is_paste, Args, arg_at, comma_and, Part, Is, Placemarker, Joins, parts_of, or_placemarker, or_none, paste_after, filled, all_filled, string_of, in_quotes, spelling_of, spelling_of_rest, spelling, made, paste, pasted_as, all_pasted, is_full, is_use, with_space, dropped, placed}
-use Rattle.cr_expand.specs.Substitution
+use Rattle.cr_macros.specs.OneToken.{one_token, is_string}
+use Rattle.cr_macros.specs.Tokens.{Text, Token, MacroText, Event, BadPaste, Work, ◌>>=◌, give, fail, note, takes, both, is_mark, with_names}
+use Rattle.cr_macros.specs.Substitution.{Item, Stays, Spelt, Bare, Full, CommaRest, Paste, item_by, item_at, items, body_items, only_if, next_is, next_param, with_token, pasted_rest, param, is_hash, is_paste, Args, arg_at, comma_and, Part, Is, Placemarker, Joins, parts_of, or_placemarker, or_none, paste_after, filled, all_filled, string_of, in_quotes, spelling_of, spelling_of_rest, spelling, made, paste, pasted_as, all_pasted, is_full, is_use, with_space, dropped, placed}
+use Rattle.cr_macros.specs.Substitution
 use Rattle.cr_expand_law.specs.Renaming.{Renaming, is_renamed, shifted, renamed, all_renamed, renamed_macro, renamed_event, IsNoParameter}
 use Rattle.cr_expand_law.proofs.Following.{renamed_events, Follows, Sim, harmless_left, harmless_right, sim_then, sim_give, sim_to, sim_note, Never, never_first}
 use Rattle.cr_expand_law.proofs.Renamed.{same_token, mark_same, paste_same, hash_same, space_renamed, of_string, of_paste, same_by_role, all_shifted, same_by_roles, all_take_renamed, same_takes, never_name}

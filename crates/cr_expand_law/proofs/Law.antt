@@ -3,10 +3,10 @@ use Rattle.std.proofs.Common.{◌≡◌, ℕ, zero, suc, ◌+◌, Bool, true, fa
 use Rattle.std.specs.List.{list_any}
 use Rattle.std.proofs.lemmas.List.{map-append, length-map}
 use Rattle.cr_base.specs.declared.cause.Role.TheVariants.{MacroName}
-use Rattle.cr_expand.specs.Tokens.{Token, MacroText, Rule, Work, ◌>>=◌, give, note, pay, takes, both, with_name}
-use Rattle.cr_expand.specs.Substitution.{Item, items, body_items, is_full, made, Args}
-use Rattle.cr_expand.specs.Substitution
-use Rattle.cr_expand.specs.Expansion.{Table, Use, Keep, Predefined, Object, Call, Wrong, expanded_if, expanded, put_in, use_of, by_use, rules, expand_within, expand}
+use Rattle.cr_macros.specs.Tokens.{Token, MacroText, Rule, Work, ◌>>=◌, give, note, pay, takes, both, with_name}
+use Rattle.cr_macros.specs.Substitution.{Item, items, body_items, is_full, made, Args}
+use Rattle.cr_macros.specs.Substitution
+use Rattle.cr_macros.specs.Expansion.{Table, Use, Keep, Predefined, Object, Call, Wrong, expanded_if, expanded, put_in, use_of, by_use, rules, expand_within, expand}
 use Rattle.cr_expand_law.specs.Renaming.{Renaming, is_renamed, shifted, renamed, all_renamed, renamed_macro, renamed_table, IsFree, KeepsExpansion}
 use Rattle.cr_expand_law.proofs.Following.{Follows, Sim, sim_then, sim_give, sim_to, sim_note, sim_pay, never_first, never_then, sim_never, Never}
 use Rattle.cr_expand_law.proofs.Renamed.{by_renamed, same_token, same_takes, never_name}

@@ -10,8 +10,8 @@ use Rattle.cr_base.specs.declared.token.Origin.{Origin}
 use Rattle.cr_base.specs.declared.token.Origin.TheVariants.{At, Made}
 use Rattle.cr_base.specs.declared.cause.Role.{Role}
 use Rattle.cr_base.specs.declared.cause.Role.TheVariants.{MacroName, Stringized, Pasted}
-use Rattle.cr_expand.specs.Tokens.{Text, Token, Event, Taken, taken_at, takes, is_mark, is_ident, is_punct, note}
-use Rattle.cr_expand.specs.Substitution.{is_hash, is_paste, with_space}
+use Rattle.cr_macros.specs.Tokens.{Text, Token, Event, Taken, taken_at, takes, is_mark, is_ident, is_punct, note}
+use Rattle.cr_macros.specs.Substitution.{is_hash, is_paste, with_space}
 use Rattle.cr_expand_law.specs.Renaming.{Renaming, is_at, is_old, is_renamed, shifted_origin, shifted, renamed, all_renamed, renamed_event, IsHarmless}
 use Rattle.cr_expand_law.proofs.Following.{renamed_events, harmless_left, harmless_right, Never}
 

@@ -6,8 +6,8 @@ use Rattle.cr_base.specs.declared.token.PpKind.{PpKind}
 use Rattle.cr_base.specs.declared.token.PpKind.TheVariants.{Ident, Punct}
 use Rattle.cr_base.specs.declared.token.Place.{Place}
 use Rattle.cr_base.specs.declared.token.Origin.TheVariants.{At}
-use Rattle.cr_expand.specs.Tokens.{Text, Token, MacroText, Event, Answer, Gave, Stopped}
-use Rattle.cr_expand.specs.Expansion.{Table, expand}
+use Rattle.cr_macros.specs.Tokens.{Text, Token, MacroText, Event, Answer, Gave, Stopped}
+use Rattle.cr_macros.specs.Expansion.{Table, expand}
 use Rattle.cr_expand_law.specs.Renaming.{Renaming, all_renamed, renamed_table, IsHarmless, IsNoParameter, IsFree}
 
 abbrev at : ℕ → Place

@@ -3,11 +3,11 @@ use Rattle.std.proofs.Common.{◌≡◌, ℕ, suc, ◌+◌, Bool, true, false, L
 use Rattle.std.specs.List.{AllByRecursion}
 use Rattle.std.proofs.lemmas.List.{length-map}
 use Rattle.cr_base.specs.declared.cause.Role.TheVariants.{MacroName}
-use Rattle.cr_expand.specs.Tokens.{Token, MacroText, Rule, Event, Answer, Gave, Work, ◌>>=◌, note, pay, takes, both, with_name}
-use Rattle.cr_expand.specs.Substitution.{body_items, made, Args}
-use Rattle.cr_expand.specs.Substitution
-use Rattle.cr_expand.specs.Expansion.{Table, Use, Keep, Predefined, Object, Call, Wrong, expanded, put_in, use_of, expand_within, expand}
-use Rattle.cr_expand.specs.Uses.{put_for, is_given, left_behind}
+use Rattle.cr_macros.specs.Tokens.{Token, MacroText, Rule, Event, Answer, Gave, Work, ◌>>=◌, note, pay, takes, both, with_name}
+use Rattle.cr_macros.specs.Substitution.{body_items, made, Args}
+use Rattle.cr_macros.specs.Substitution
+use Rattle.cr_macros.specs.Expansion.{Table, Use, Keep, Predefined, Object, Call, Wrong, expanded, put_in, use_of, expand_within, expand}
+use Rattle.cr_macros.specs.Uses.{put_for, is_given, left_behind}
 use Rattle.cr_expand_law.specs.Renaming.{Renaming, is_renamed, shifted, renamed, all_renamed, renamed_macro, renamed_table, IsHarmless, IsFree}
 use Rattle.cr_expand_law.specs.Uses.{KeepsUses}
 use Rattle.cr_expand_law.proofs.Following.{renamed_events, Follows, Sim, sim_then, sim_to, sim_note, sim_pay, Harms, Never, never_first, never_then}

@@ -7,9 +7,9 @@ use Rattle.cr_base.specs.declared.token.Place.{Place}
 use Rattle.cr_base.specs.declared.token.Origin.{Origin}
 use Rattle.cr_base.specs.declared.token.Origin.TheVariants.{At, Made}
 use Rattle.cr_base.specs.declared.cause.Role.TheVariants.{Dropped}
-use Rattle.cr_expand.specs.Tokens.{Text, Token, MacroText, Event, Rule, Taken, is_ident, Gave}
-use Rattle.cr_expand.specs.Substitution.{param}
-use Rattle.cr_expand.specs.Expansion.{Table, expand}
+use Rattle.cr_macros.specs.Tokens.{Text, Token, MacroText, Event, Rule, Taken, is_ident, Gave}
+use Rattle.cr_macros.specs.Substitution.{param}
+use Rattle.cr_macros.specs.Expansion.{Table, expand}
 
 -- A name, the one that takes its place, the places at which it does, and where each place is afterwards.
 pub record Renaming : Type 0 where

@@ -1,9 +1,9 @@
 -- What a renaming does to one use of a rule of expansion.
 use Rattle.std.specs.Prelude.{◌≡◌, ℕ, List, map}
 use Rattle.std.specs.List.{AllByRecursion}
-use Rattle.cr_expand.specs.Tokens.{Token, Event, Gave}
-use Rattle.cr_expand.specs.Expansion.{Table, use_of}
-use Rattle.cr_expand.specs.Uses.{put_for, is_given, left_behind}
+use Rattle.cr_macros.specs.Tokens.{Token, Event, Gave}
+use Rattle.cr_macros.specs.Expansion.{Table, use_of}
+use Rattle.cr_macros.specs.Uses.{put_for, is_given, left_behind}
 use Rattle.cr_expand_law.specs.Renaming.{Renaming, renamed, all_renamed, renamed_table, renamed_event, IsHarmless, IsFree}
 
 -- Where the rule for the head of a list gives tokens with harmless events, the rule for the renamed head gives the renamed

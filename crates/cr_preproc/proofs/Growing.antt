@@ -7,7 +7,7 @@ use Rattle.cr_base.specs.declared.cause.Role.TheVariants as role
 use Rattle.cr_base.specs.declared.unit.Unit.{Unit}
 use Rattle.cr_snapshot.specs.Files.{Finding, Present, Absent, Unknown}
 use Rattle.cr_snapshot.specs.IncludeSearch.{is_apart, candidates}
-use Rattle.cr_expand.specs.Tokens.{Text, Token, has}
+use Rattle.cr_macros.specs.Tokens.{Text, Token, has}
 use Rattle.cr_preproc.specs.Tasks.{End, Ill, Over, Needs, Event, Looked, Opened, State, Reply, Goes, Ends, Task, Nothing, behind, go_on, ◌>>>◌, only, ready, ends, tell, look, marks, reads, in_directive, events_of}
 use Rattle.cr_preproc.specs.Lines.{File, file_of, place_in, Line, Plain, Conditional, Directive, Empty, Wordless, line_of}
 use Rattle.cr_preproc.specs.Definition.{definition, undefined_name}

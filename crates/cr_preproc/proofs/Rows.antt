@@ -12,9 +12,9 @@ use Rattle.cr_lex.specs.Joins.{cells}
 use Rattle.cr_lex.specs.Lexing.{longest, cut, lexed}
 use Rattle.cr_lex.specs.Spellings.{token_kind, part_of}
 use Rattle.cr_cond.specs.Constants.{unsigned_suffixes, plain_suffixes}
-use Rattle.cr_expand.specs.OneToken as one
-use Rattle.cr_expand.specs.Tokens.{Event as Telling, Rule, Taken}
-use Rattle.cr_expand.specs.Expansion.{expand}
+use Rattle.cr_macros.specs.OneToken as one
+use Rattle.cr_macros.specs.Tokens.{Event as Telling, Rule, Taken}
+use Rattle.cr_macros.specs.Expansion.{expand}
 use Rattle.cr_preproc.specs.Tasks.{Tokens, Includes, End, Ill, Over, Needs, Event, Opened, Looked, Told, Final, Reply, Goes, Ends, Nothing, events_of}
 use Rattle.cr_preproc.specs.Search.{World}
 use Rattle.cr_preproc.specs.Preprocessing.{preprocessed, does_unit, at_first}

@@ -9,9 +9,9 @@ use Rattle.cr_cond.specs.declared.CondFault.{CondFault}
 use Rattle.cr_cond.specs.declared.CondFault.TheVariants as cond
 use Rattle.cr_cond.specs.Symbols.{Lexeme}
 use Rattle.cr_cond.specs.Value.{is_zero_int, is_defined, value_of, numbered}
-use Rattle.cr_expand.specs.Tokens.{Text, Token, is_ident, is_mark}
-use Rattle.cr_expand.specs.Substitution.{made, only_if}
-use Rattle.cr_expand.specs.Expansion.{predefined_named}
+use Rattle.cr_macros.specs.Tokens.{Text, Token, is_ident, is_mark}
+use Rattle.cr_macros.specs.Substitution.{made, only_if}
+use Rattle.cr_macros.specs.Expansion.{predefined_named}
 use Rattle.cr_preproc.specs.Tasks.{Ill, Event, State, Task, ◌>>>◌, only, ends, tell, look, marks, in_directive}
 use Rattle.cr_preproc.specs.Lines.{Word, If, Ifdef, Ifndef, Elif, Else, Endif}
 use Rattle.cr_preproc.specs.Runs.{expands}

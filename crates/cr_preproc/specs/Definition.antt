@@ -1,9 +1,9 @@
 -- What a `define` line defines, by the texts of its tokens (C11 6.10.3, 6.10.8p4).
 use Rattle.std.specs.Prelude.{ℕ, ◌+◌, ◌-◌, Bool, true, false, not, ◌&&◌, ◌||◌, if◌then◌else◌, List, [], ◌∷◌, ◌++◌, length, take, drop, fold, position, bytes_eq, codes, slice_get, Option, Some, None, is_some}
 use Rattle.std.specs.List.{list_any, slice_split}
-use Rattle.cr_expand.specs.Tokens.{Text, Token, MacroText, is_ident, is_mark, has}
-use Rattle.cr_expand.specs.Substitution.{is_hash, is_paste, next_param}
-use Rattle.cr_expand.specs.Definition.{is_kept_word}
+use Rattle.cr_macros.specs.Tokens.{Text, Token, MacroText, is_ident, is_mark, has}
+use Rattle.cr_macros.specs.Substitution.{is_hash, is_paste, next_param}
+use Rattle.cr_macros.specs.Definition.{is_kept_word}
 
 -- `__VA_ARGS__`
 abbrev pub is_rest : Token → Bool

@@ -8,8 +8,8 @@ use Rattle.cr_base.specs.declared.cause.Role.{Role}
 use Rattle.cr_base.specs.declared.cause.Role.TheVariants.{Param, Directive, Opaque}
 use Rattle.cr_base.specs.declared.unit.Unit.{Unit}
 use Rattle.cr_snapshot.specs.IncludeSearch.{candidates}
-use Rattle.cr_expand.specs.Tokens.{Text, Token, MacroText, is_ident, is_mark, has}
-use Rattle.cr_expand.specs.Substitution.{param}
+use Rattle.cr_macros.specs.Tokens.{Text, Token, MacroText, is_ident, is_mark, has}
+use Rattle.cr_macros.specs.Substitution.{param}
 use Rattle.cr_preproc.specs.Tasks.{Ill, Needs, Event, Looked, Defined, State, Task, Nothing, ◌>>>◌, ready, ends, tell, look, change, marks, in_directive}
 use Rattle.cr_preproc.specs.Lines.{File, file_of}
 use Rattle.cr_preproc.specs.Definition.{Definition, definition, undefined_name}

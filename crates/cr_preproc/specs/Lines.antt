@@ -5,8 +5,8 @@ use Rattle.cr_base.specs.declared.token.Origin.TheVariants.{At}
 use Rattle.cr_base.specs.declared.cause.IllCause.TheVariants as cause
 use Rattle.cr_lex.specs.Lexing.{Fault, OpenComment, Trigraph, lexed}
 use Rattle.cr_lex.specs.Lexing as lexing
-use Rattle.cr_expand.specs.Tokens.{Text, Token, is_ident}
-use Rattle.cr_expand.specs.Substitution.{is_hash}
+use Rattle.cr_macros.specs.Tokens.{Text, Token, is_ident}
+use Rattle.cr_macros.specs.Substitution.{is_hash}
 use Rattle.cr_preproc.specs.Tasks.{End, Ill}
 
 abbrev pub place_in : ℕ → ℕ → Place

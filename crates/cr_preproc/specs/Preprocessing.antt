@@ -4,7 +4,7 @@ use Rattle.std.specs.Prelude.{ℕ, zero, suc, Bool, true, false, ◌&&◌, if◌
 use Rattle.cr_base.specs.declared.cause.IllCause.TheVariants as cause
 use Rattle.cr_base.specs.declared.cause.Role.TheVariants as role
 use Rattle.cr_base.specs.declared.unit.Unit.{Unit}
-use Rattle.cr_expand.specs.Tokens.{Text, Token}
+use Rattle.cr_macros.specs.Tokens.{Text, Token}
 use Rattle.cr_preproc.specs.Tasks.{Includes, End, Ill, Over, Took, Opened, State, Reply, Task, Nothing, ◌>>>◌, only, ends, tell, look, marks, reads}
 use Rattle.cr_preproc.specs.Lines.{File, place_in, Line, Plain, Conditional, Directive, Empty, Wordless, line_of}
 use Rattle.cr_preproc.specs.Search.{World, words_path}

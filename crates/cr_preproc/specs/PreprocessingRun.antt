@@ -1,7 +1,7 @@
 -- The states of a unit's preprocessing, one for each of its steps.
 use Rattle.std.specs.Prelude.{◌≡◌, ◌⊎◌, ◌++◌, ℕ, zero, suc, Bool, true, false, if◌then◌else◌, List, [], ◌∷◌, flat_map, count_by}
 use Rattle.cr_base.specs.declared.unit.Unit.{Unit}
-use Rattle.cr_expand.specs.Tokens.{Text, Token, Event as Telling, Rule, Taken}
+use Rattle.cr_macros.specs.Tokens.{Text, Token, Event as Telling, Rule, Taken}
 use Rattle.cr_snapshot.specs.Files.{Unknown}
 use Rattle.cr_preproc.specs.Tasks.{Reply, End, Ill, Over, Needs, Goes, Ends, Nothing, Event, Took, Opened, Looked, Defined, Told, Final, events_of}
 use Rattle.cr_preproc.specs.Search.{World}

@@ -4,10 +4,10 @@
 use Rattle.std.specs.Prelude.{ℕ, zero, suc, ◌+◌, Bool, true, false, if◌then◌else◌, List, [], ◌∷◌, ◌++◌, length}
 use Rattle.cr_base.specs.declared.cause.IllCause.{IllCause}
 use Rattle.cr_base.specs.declared.cause.IllCause.TheVariants as cause
-use Rattle.cr_expand.specs.Tokens.{Text, Token}
-use Rattle.cr_expand.specs.Substitution.{in_quotes, escaped}
-use Rattle.cr_expand.specs.Expansion.{Table, Use, use_of, expand}
-use Rattle.cr_expand.specs.Uses.{put_for, is_given, left_behind}
+use Rattle.cr_macros.specs.Tokens.{Text, Token}
+use Rattle.cr_macros.specs.Substitution.{in_quotes, escaped}
+use Rattle.cr_macros.specs.Expansion.{Table, Use, use_of, expand}
+use Rattle.cr_macros.specs.Uses.{put_for, is_given, left_behind}
 use Rattle.cr_preproc.specs.Tasks.{Macros, End, Ill, Over, Needs, State, Reply, Goes, Ends, Task, Nothing, ◌>>>◌, ready, ends, does, gives, events_of}
 
 -- the macros of a state, in the file at a path

@@ -6,7 +6,7 @@ use Rattle.cr_base.specs.declared.unit.Unit.{Unit}
 use Rattle.cr_snapshot.specs.declared.known.KnownFile.{KnownFile}
 use Rattle.cr_snapshot.specs.Files.{Finding, Present, Absent, Unknown, finding}
 use Rattle.cr_snapshot.specs.IncludeSearch.{is_apart}
-use Rattle.cr_expand.specs.Tokens.{Text}
+use Rattle.cr_macros.specs.Tokens.{Text}
 
 -- what is known of each path, and its number where it is known
 pub record World : Type 0 where

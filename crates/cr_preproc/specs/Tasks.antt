@@ -5,7 +5,7 @@ use Rattle.cr_base.specs.declared.token.Place.{Place}
 use Rattle.cr_base.specs.declared.cause.Role.{Role}
 use Rattle.cr_base.specs.declared.cause.IllCause.{IllCause}
 use Rattle.cr_base.specs.declared.cause.IllCause.TheVariants as cause
-use Rattle.cr_expand.specs.Tokens.{Text, Token, MacroText, Event as Telling, takes, Cause, ArgCount, OpenCall, BadPaste, Over as MacrosOver, Answer, Gave, Stopped, Work}
+use Rattle.cr_macros.specs.Tokens.{Text, Token, MacroText, Event as Telling, takes, Cause, ArgCount, OpenCall, BadPaste, Over as MacrosOver, Answer, Gave, Stopped, Work}
 
 -- what a unit can have too much of: final tokens, macro work, reading, include levels
 pub data Limit : Type 0 where

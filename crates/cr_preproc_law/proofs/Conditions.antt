@@ -8,9 +8,9 @@ use Rattle.cr_base.specs.declared.cause.IllCause.TheVariants as cause
 use Rattle.cr_base.specs.declared.cause.Role.TheVariants.{Controlling, Directive}
 use Rattle.cr_cond.specs.declared.CondFault.{CondFault}
 use Rattle.cr_cond.specs.Value.{is_zero_int, is_defined, value_of, numbered}
-use Rattle.cr_expand.specs.Tokens.{Text, Token, MacroText, is_ident, is_mark}
-use Rattle.cr_expand.specs.Substitution.{made, only_if}
-use Rattle.cr_expand.specs.Expansion.{predefined_named}
+use Rattle.cr_macros.specs.Tokens.{Text, Token, MacroText, is_ident, is_mark}
+use Rattle.cr_macros.specs.Substitution.{made, only_if}
+use Rattle.cr_macros.specs.Expansion.{predefined_named}
 use Rattle.cr_expand_law.specs.Renaming.{Renaming, shifted, renamed, all_renamed, renamed_macro, KeepsExpansion}
 use Rattle.cr_expand_law.specs.Uses.{KeepsUses}
 use Rattle.cr_preproc.specs.Tasks.{Ill, State, Task, ◌>>>◌, look, tell, only, ends, marks, in_directive}

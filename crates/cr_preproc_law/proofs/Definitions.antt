@@ -7,8 +7,8 @@ use Rattle.std.proofs.lemmas.Option.{slice_get-map}
 use Rattle.std.proofs.lemmas.Slice.Eq.{bytes_eq-Decides}
 use Rattle.cr_base.specs.Names.{is_reserved}
 use Rattle.cr_base.specs.declared.cause.Role.TheVariants.{Param, Directive}
-use Rattle.cr_expand.specs.Tokens.{Text, Token, MacroText, is_ident, is_mark}
-use Rattle.cr_expand.specs.Substitution.{is_hash, param, next_param}
+use Rattle.cr_macros.specs.Tokens.{Text, Token, MacroText, is_ident, is_mark}
+use Rattle.cr_macros.specs.Substitution.{is_hash, param, next_param}
 use Rattle.cr_expand_law.specs.Renaming.{Renaming, is_renamed, shifted, renamed, all_renamed, renamed_macro, IsNoParameter}
 use Rattle.cr_preproc.specs.Tasks.{marks}
 use Rattle.cr_preproc.specs.Definition.{is_rest, is_free_name, Params, pieces, after_piece, params_of, object_like, function_like, begins_params, close_of, with_params, macro_of, inside_of, parameters_of, is_paste_at, has_pastes_inside, has_params_behind_hashes, has_good_hashes, is_good, Definition, if_good, definition}

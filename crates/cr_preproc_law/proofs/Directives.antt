@@ -9,7 +9,7 @@ use Rattle.cr_base.specs.declared.cause.IllCause.TheVariants as cause
 use Rattle.cr_base.specs.declared.cause.Role.TheVariants.{Param, Directive, Opaque}
 use Rattle.cr_base.specs.declared.unit.Unit.{Unit}
 use Rattle.cr_snapshot.specs.IncludeSearch.{candidates}
-use Rattle.cr_expand.specs.Tokens.{Text, Token, MacroText, is_ident, is_mark}
+use Rattle.cr_macros.specs.Tokens.{Text, Token, MacroText, is_ident, is_mark}
 use Rattle.cr_expand_law.specs.Renaming.{Renaming, renamed, all_renamed, renamed_macro, IsNoParameter, KeepsExpansion}
 use Rattle.cr_expand_law.specs.Uses.{KeepsUses}
 use Rattle.cr_preproc.specs.Tasks.{Ill, Event, Defined, State, Goes, Task, Nothing, Done, ◌>>>◌, ready, ends, tell, change, marks, in_directive}

@@ -15,7 +15,7 @@ use Rattle.cr_lex.specs.Order.{AreInOrder, StandsInOrder}
 use Rattle.cr_lex.specs.Renaming.{is_among, IsPlace, IsRenamable, renamed_token, shifted_fault, KeepsLexing}
 use Rattle.cr_lex.specs.Renaming as lexes
 use Rattle.cr_snapshot.specs.Files.{Finding, Present, Absent, Unknown}
-use Rattle.cr_expand.specs.Tokens.{Text, Token, is_ident}
+use Rattle.cr_macros.specs.Tokens.{Text, Token, is_ident}
 use Rattle.cr_expand_law.specs.Renaming.{Renaming, renamed, all_renamed, KeepsExpansion}
 use Rattle.cr_expand_law.specs.Uses.{KeepsUses}
 use Rattle.cr_preproc.specs.Lines.{file_of, token_in, begins_line, into_line, lines_of, fault_of}

@@ -5,9 +5,9 @@ use Rattle.std.specs.Prelude.{nat_lt}
 use Rattle.std.specs.List.{AllByRecursion}
 use Rattle.cr_base.specs.Names.{is_reserved}
 use Rattle.cr_base.specs.declared.token.Place.{Place}
-use Rattle.cr_expand.specs.Tokens.{Text, Token, MacroText, Event as Telling, Answer, Gave, Stopped}
-use Rattle.cr_expand.specs.Expansion.{Table, Use, use_of, expand}
-use Rattle.cr_expand.specs.Uses.{put_for, is_given, left_behind}
+use Rattle.cr_macros.specs.Tokens.{Text, Token, MacroText, Event as Telling, Answer, Gave, Stopped}
+use Rattle.cr_macros.specs.Expansion.{Table, Use, use_of, expand}
+use Rattle.cr_macros.specs.Uses.{put_for, is_given, left_behind}
 use Rattle.cr_expand_law.specs.Renaming.{Renaming, renamed, all_renamed, renamed_table, renamed_event as renamed_telling, IsNoParameter, IsFree, IsHarmless, KeepsExpansion}
 use Rattle.cr_expand_law.specs.Uses.{KeepsUses}
 use Rattle.cr_preproc.specs.Tasks.{Tokens, Macros, Reading, End, Over, Event, Told, Final, State, Reply, Goes, Ends, Task, Nothing, Done, behind, go_on, ◌>>>◌, only, ends, tell, look, reads, gives, from_answer, at_place, in_directive}

@@ -8,8 +8,8 @@ use Rattle.cr_base.specs.declared.token.Place.{Place}
 use Rattle.cr_base.specs.declared.cause.IllCause.TheVariants as cause
 use Rattle.cr_base.specs.declared.cause.Role.TheVariants as role
 use Rattle.cr_base.specs.declared.unit.Unit.{Unit}
-use Rattle.cr_expand.specs.Tokens.{Text, Token, is_ident}
-use Rattle.cr_expand.specs.Substitution.{is_hash}
+use Rattle.cr_macros.specs.Tokens.{Text, Token, is_ident}
+use Rattle.cr_macros.specs.Substitution.{is_hash}
 use Rattle.cr_expand_law.specs.Renaming.{Renaming, renamed, all_renamed, KeepsExpansion}
 use Rattle.cr_expand_law.specs.Uses.{KeepsUses}
 use Rattle.cr_preproc.specs.Tasks.{Includes, End, Ill, Over, Event, Took, Opened, State, Goes, Task, Nothing, Done, ◌>>>◌, only, ends, tell, look, marks, reads}

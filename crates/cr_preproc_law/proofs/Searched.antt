@@ -4,7 +4,7 @@ use Rattle.cr_base.specs.declared.token.Place.{Place}
 use Rattle.cr_base.specs.declared.cause.IllCause.TheVariants as cause
 use Rattle.cr_snapshot.specs.Files.{Finding, Present, Absent, Unknown}
 use Rattle.cr_snapshot.specs.IncludeSearch.{is_apart}
-use Rattle.cr_expand.specs.Tokens.{Text, has}
+use Rattle.cr_macros.specs.Tokens.{Text, has}
 use Rattle.cr_expand_law.specs.Renaming.{Renaming}
 use Rattle.cr_preproc.specs.Tasks.{Looked, Needs, Ill, Done, look, tell, ends, ready}
 use Rattle.cr_preproc.specs.Lines.{File, file_of}

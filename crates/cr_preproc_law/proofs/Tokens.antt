@@ -10,8 +10,8 @@ use Rattle.cr_base.specs.declared.token.Origin.{Origin}
 use Rattle.cr_base.specs.declared.token.Origin.TheVariants.{At, Made}
 use Rattle.cr_base.specs.declared.cause.Role.{Role}
 use Rattle.cr_base.specs.declared.cause.Role.TheVariants.{Param, Controlling, Directive}
-use Rattle.cr_expand.specs.Tokens.{Text, Token, Taken, taken_at, is_mark, is_ident, is_punct}
-use Rattle.cr_expand.specs.Substitution.{is_hash, is_paste}
+use Rattle.cr_macros.specs.Tokens.{Text, Token, Taken, taken_at, is_mark, is_ident, is_punct}
+use Rattle.cr_macros.specs.Substitution.{is_hash, is_paste}
 use Rattle.cr_expand_law.specs.Renaming.{Renaming, is_at, is_old, is_renamed, shifted_origin, shifted, renamed, all_renamed, IsHarmless}
 use Rattle.cr_preproc.specs.Tasks.{Event, Told, marks}
 use Rattle.cr_preproc_law.specs.Renaming.{renamed_event, IsFine, IsSame, AreSame}

@@ -6,8 +6,8 @@ use Rattle.cr_base.specs.Substitution.{Rise, substituted, shifted as shifted_off
 use Rattle.cr_base.specs.declared.unit.Unit.{Unit}
 use Rattle.cr_lex.specs.Renaming.{is_among, IsPlace}
 use Rattle.cr_snapshot.specs.Files.{Finding, Present, Absent, Unknown}
-use Rattle.cr_expand.specs.Tokens.{Text, Token, MacroText}
-use Rattle.cr_expand.specs.Substitution.{param}
+use Rattle.cr_macros.specs.Tokens.{Text, Token, MacroText}
+use Rattle.cr_macros.specs.Substitution.{param}
 use Rattle.cr_expand_law.specs.Renaming.{Renaming, is_renamed, renamed, all_renamed, renamed_macro, renamed_event as renamed_telling, IsHarmless}
 use Rattle.cr_preproc.specs.Tasks.{End, Ill, Over, Needs, Event, Took, Opened, Looked, Defined, Told, Final, State, Goes, Done}
 use Rattle.cr_preproc.specs.Lines.{File, file_of, Line, Plain, Conditional, Directive, Empty, Wordless, line_of}
