@@ -20,6 +20,11 @@ const HIDDEN_REPORT: &[u8] =
 const INNER_REPORT: &[u8] =
     b"renamed x to z\nunits 1, skipped 0, files 1, edits 2\nedit a.c 22\nedit a.c 33\nfile a.c 44\nint x;int f(void){int z=1;return z;}int y=x;\n";
 
+const COMMENTED: &[u8] = b"int/* foo */foo;// foo\nint f(void){return \\\nfoo;}\n";
+
+const COMMENTED_REPORT: &[u8] =
+    b"renamed foo to bar\nunits 1, skipped 0, files 1, edits 2\nedit a.c 12\nedit a.c 44\nfile a.c 50\nint/* foo */bar;// foo\nint f(void){return \\\nbar;}\n\n";
+
 const UNBUILT: &[u8] = b"crename: unbuilt: a.c\n";
 
 const NO_SYMBOL: &[u8] = b"crename: no symbol\n";
@@ -177,7 +182,7 @@ fn words_and_names_are_refused_with_their_line(rt: HostRuntime) -> Result<(), Fa
 #[test]
 fn one_file_is_renamed_or_refused(rt: HostRuntime) -> Result<(), Fail> {
     let alloc = rt.alloc();
-    let cases: [(&[u8], &str, u8, &[u8], &[u8]); 11] = [
+    let cases: [(&[u8], &str, u8, &[u8], &[u8]); 17] = [
         (
             TWO_FUNCTIONS,
             "a.c --offset 4 --new-name bar",
@@ -201,6 +206,48 @@ fn one_file_is_renamed_or_refused(rt: HostRuntime) -> Result<(), Fail> {
             b"",
         ),
         (HIDDEN, "a.c --offset 33 --new-name z", 0, INNER_REPORT, b""),
+        (
+            COMMENTED,
+            "a.c --offset 13 --new-name bar",
+            0,
+            COMMENTED_REPORT,
+            b"",
+        ),
+        (
+            b"int fo\\\no;\n",
+            "a.c --offset 4 --new-name bar",
+            12,
+            b"",
+            b"crename: spelling: a.c:4\n",
+        ),
+        (
+            b"int foo;int f(void){return fo\\\r\no+f\\\noo;}\n",
+            "a.c --offset 31 --new-name bar",
+            12,
+            b"",
+            b"crename: spelling: a.c:27\n",
+        ),
+        (
+            b"int fo\\\no;\n",
+            "a.c --offset 4 --new-name _x",
+            7,
+            b"",
+            b"crename: reserved: _x\n",
+        ),
+        (
+            b"# pragma x\nint foo;\n",
+            "a.c --offset 15 --new-name bar",
+            20,
+            b"",
+            UNBUILT,
+        ),
+        (
+            b"int foo; /* x",
+            "a.c --offset 4 --new-name bar",
+            20,
+            b"",
+            UNBUILT,
+        ),
         (
             b"int foo;\nint bar;\n",
             "a.c --offset 4 --new-name bar",
@@ -341,6 +388,31 @@ fn a_unit_that_is_not_built_changes_no_file(rt: HostRuntime) -> Result<(), Fail>
         let mut tree = two_units(alloc, first, second)?;
         let told = told_of(alloc, &mut tree, IN_PLACE)?;
         assert!(rt; is(&told, 20, b"", b"crename: unbuilt: /w/b.c\n"));
+        assert!(rt; holds(alloc, &tree, "/w/a.c", first)?);
+    }
+    Ok(())
+}
+
+#[test]
+fn a_name_over_a_joined_line_changes_no_file(rt: HostRuntime) -> Result<(), Fail> {
+    let alloc = rt.alloc();
+    let first = b"int foo(void);\n".as_slice();
+    let cases: [(&[u8], u8, &[u8]); 2] = [
+        (
+            b"int f\\\noo(void);\n",
+            12,
+            b"crename: spelling: /w/b.c:4\n",
+        ),
+        (
+            b"int f\\\noo(void);int bar;\n",
+            20,
+            b"crename: unbuilt: /w/b.c\n",
+        ),
+    ];
+    for (second, status, err) in &cases {
+        let mut tree = two_units(alloc, first, second)?;
+        let told = told_of(alloc, &mut tree, IN_PLACE)?;
+        assert!(rt; is(&told, *status, b"", err));
         assert!(rt; holds(alloc, &tree, "/w/a.c", first)?);
     }
     Ok(())
