@@ -1,8 +1,8 @@
 -- The items of a body, one after another.
 use Rattle.std.proofs.Common.{◌≡◌, ℕ, zero, suc, ◌+◌, ◌-◌, ◌<◌, Bool, false, List, [], ◌∷◌, length, drop, get_or, refl, sym, ap, ◌∙◌, arith, add-one, drop-cons}
 use Rattle.cr_base.specs.declared.token.PpTok.{PpTok}
-use Rattle.cr_expand.specs.Tokens.{Text, Token, MacroText, tokens_of}
-use Rattle.cr_expand.specs.Substitution as spec
+use Rattle.cr_macros.specs.Tokens.{Text, Token, MacroText, tokens_of}
+use Rattle.cr_macros.specs.Substitution as spec
 
 pub cut_at : {A : Type 0} (xs : List A) (i : ℕ) (d : A) → i < length xs → drop i xs ≡ get_or xs i d ∷ drop (i + 1) xs
 cut_at xs i d h = drop-cons xs i d h ∙ ap (λ n. get_or xs i d ∷ drop n xs) (sym (add-one i))

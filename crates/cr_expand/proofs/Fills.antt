@@ -3,17 +3,17 @@ use Rattle.std.proofs.Common.{◌≡◌, ℕ, zero, suc, ◌+◌, ◌<◌, drop,
 use Rattle.std.specs.List.{All}
 use Rattle.std.proofs.lemmas.List.Elements.{All-head, All-tail, All-cons, All-nil, All-get_or, All-weaker, All-append}
 use Rattle.cr_base.specs.declared.token.PpTok.{PpTok}
-use Rattle.cr_expand.specs.declared.macros.Seen.{Seen}
+use Rattle.cr_macros.specs.declared.macros.Seen.{Seen}
 use Rattle.cr_expand.specs.declared.held.Held.{Held}
 use Rattle.cr_expand.specs.declared.items.Item.{Item}
 use Rattle.cr_expand.specs.declared.items.Item.TheVariants as item
 use Rattle.cr_expand.specs.declared.parts.Part.{Part}
 use Rattle.cr_expand.specs.declared.parts.Part.TheVariants as part
-use Rattle.cr_expand.specs.declared.fault.ExpandFault.{ExpandFault}
-use Rattle.cr_expand.specs.Tokens.{Text, Token, token_of, give, ◌>>=◌}
-use Rattle.cr_expand.specs.Substitution as spec
+use Rattle.cr_macros.specs.declared.fault.ExpandFault.{ExpandFault}
+use Rattle.cr_macros.specs.Tokens.{Text, Token, token_of, give, ◌>>=◌}
+use Rattle.cr_macros.specs.Substitution as spec
 use Rattle.cr_expand.specs.HideSets.{Sets, set_at, Grows}
-use Rattle.cr_expand.specs.Definition.{text_of}
+use Rattle.cr_macros.specs.Definition.{text_of}
 use Rattle.cr_expand.specs.Held.{held, all_held, all_args, Watch, Does, Stops, IsKnown, AreKnown, IsNamed, AreTables}
 use Rattle.cr_expand.specs.Items.{item_text, IsTokenNamed}
 use Rattle.cr_expand.specs.Parts.{part_text, part_texts, IsPartKnown, arg_here, spaced, parts_here, or_placemarker_here, comma_and_here, unhidden, filled_here, IsMade, IsItemNamed, filled_text, all_filled_text, Adds, IsFilling}

@@ -1,5 +1,5 @@
 -- Macros by name and by text.
-use Rattle.std.proofs.Common.{◌≡◌, ℕ, ◌<◌, Bool, true, false, List, [], ◌∷◌, length, map, refl, sym, ap, ◌∙◌, subst, Option, Some, None}
+use Rattle.std.proofs.Common.{◌≡◌, ℕ, ◌<◌, Bool, true, List, [], ◌∷◌, length, map, refl, sym, ap, ◌∙◌, Option, Some, None}
 use Rattle.std.specs.Prelude.{◌==◌, ◌||◌, not, bytes_eq, if◌then◌else◌, option_map}
 use Rattle.std.specs.List.{All}
 use Rattle.std.specs.Map.{lookup}
@@ -7,13 +7,13 @@ use Rattle.std.proofs.lemmas.List.Elements.{All-head, All-tail, All-get_or}
 use Rattle.cr_base.specs.NameTable.{IsDistinct}
 use Rattle.cr_base.specs.declared.token.Name.{Name}
 use Rattle.cr_base.specs.declared.token.PpTok.{PpTok}
-use Rattle.cr_expand.specs.declared.macros.Macro.{Macro}
-use Rattle.cr_expand.specs.declared.words.Predefined.{Predefined}
+use Rattle.cr_macros.specs.declared.macros.Macro.{Macro}
+use Rattle.cr_macros.specs.declared.words.Predefined.{Predefined}
 use Rattle.cr_expand.specs.declared.held.Held.{Held}
-use Rattle.cr_expand.specs.Tokens.{Text, Token, token_of, is_ident, has}
-use Rattle.cr_expand.specs.Expansion as spec
-use Rattle.cr_expand.specs.Definition.{text_of, has_name}
-use Rattle.cr_expand.specs.MacroTables.{Macros, macro_named, macro_text, table_of}
+use Rattle.cr_macros.specs.Tokens.{Text, Token, token_of, is_ident, has}
+use Rattle.cr_macros.specs.Expansion as spec
+use Rattle.cr_macros.specs.Definition.{text_of, has_name}
+use Rattle.cr_macros.specs.MacroTables.{Macros, macro_named, macro_text, table_of}
 use Rattle.cr_expand.specs.HideSets.{Sets, set_at}
 use Rattle.cr_expand.specs.Held.{held, hidden, IsNamed, AreTables}
 use Rattle.cr_expand.specs.Heading.{called_by, IsEntryKnown, AreMacrosKnown}

@@ -5,8 +5,8 @@ use Rattle.std.specs.List.{All, list_any}
 use Rattle.std.proofs.lemmas.List.Elements.{All-head, All-tail, All-cons, All-nil}
 use Rattle.cr_base.specs.NameTable.{IsDistinct}
 use Rattle.cr_base.specs.declared.token.Name.{Name}
-use Rattle.cr_expand.specs.Tokens.{Text, has, with_name, with_names, both}
-use Rattle.cr_expand.specs.Definition.{text_of, has_name}
+use Rattle.cr_macros.specs.Tokens.{Text, has, with_name, with_names, both}
+use Rattle.cr_macros.specs.Definition.{text_of, has_name}
 use Rattle.cr_expand.specs.HideSets.{with_number, with_numbers, in_both}
 use Rattle.cr_expand.specs.Held.{IsNamed}
 use Rattle.cr_expand.proofs.Numbers.{same_name}

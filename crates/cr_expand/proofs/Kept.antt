@@ -8,8 +8,8 @@ use Rattle.std.proofs.lemmas.List.Elements.{All-head, All-tail, All-get_or, All-
 use Rattle.cr_base.specs.declared.token.Name.{Name}
 use Rattle.cr_base.specs.declared.token.PpTok.{PpTok}
 use Rattle.cr_expand.specs.declared.held.Held.{Held}
-use Rattle.cr_expand.specs.Tokens.{Text, token_of}
-use Rattle.cr_expand.specs.Definition.{text_of}
+use Rattle.cr_macros.specs.Tokens.{Text, token_of}
+use Rattle.cr_macros.specs.Definition.{text_of}
 use Rattle.cr_expand.specs.HideSets.{Sets, set_at, Grows}
 use Rattle.cr_expand.specs.declared.notes.Notes.{Notes}
 use Rattle.cr_expand.specs.Held.{watch_of, hidden, held, all_held, all_args, IsNamed, IsKnown, AreKnown, AreTables}

@@ -1,7 +1,3 @@
-pub mod Work
-pub mod Equation
-mod Rows
-pub mod Pieces
 pub mod Sets
 pub mod Noted
 pub mod Numbers

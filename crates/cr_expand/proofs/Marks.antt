@@ -3,15 +3,15 @@ use Rattle.std.proofs.Common.{◌≡◌, ℕ, ◌+◌, ◌<◌, Bool, true, fals
 use Rattle.std.proofs.Common.{◌++◌, append_assoc, append-nil}
 use Rattle.std.specs.Prelude.{◌||◌, if◌then◌else◌, flat_map}
 use Rattle.cr_base.specs.declared.cause.Role.TheVariants.{Dropped}
-use Rattle.cr_expand.specs.declared.macros.Seen.{Seen}
+use Rattle.cr_macros.specs.declared.macros.Seen.{Seen}
 use Rattle.cr_expand.specs.declared.held.Held.{Held}
 use Rattle.cr_expand.specs.HideSets.{Sets}
 use Rattle.cr_expand.specs.Held.{Watch, noted, all_held, all_args}
 use Rattle.cr_expand.proofs.Noted.{noted_append}
 use Rattle.std.specs.List.{list_any}
 use Rattle.cr_expand.specs.declared.items.Item.{Item}
-use Rattle.cr_expand.specs.Tokens.{Text, Event, takes}
-use Rattle.cr_expand.specs.Substitution as spec
+use Rattle.cr_macros.specs.Tokens.{Text, Event, takes}
+use Rattle.cr_macros.specs.Substitution as spec
 use Rattle.cr_expand.specs.Items.{item_text, item_texts}
 use Rattle.cr_expand.proofs.Bodies.{cut_at}
 

@@ -3,12 +3,12 @@ use Rattle.std.proofs.Common.{◌≡◌, ℕ, ◌+◌, ◌<◌, List, [], ◌∷
 use Rattle.std.specs.Prelude.{flat_map}
 use Rattle.std.proofs.lemmas.List.{take_more, map-append}
 use Rattle.cr_base.specs.declared.cause.Role.{Role}
-use Rattle.cr_expand.specs.declared.macros.Seen.{Seen}
+use Rattle.cr_macros.specs.declared.macros.Seen.{Seen}
 use Rattle.cr_expand.specs.declared.held.Held.{Held}
-use Rattle.cr_expand.specs.Tokens.{Text, Event, takes}
+use Rattle.cr_macros.specs.Tokens.{Text, Event, takes}
 use Rattle.cr_expand.specs.HideSets.{Sets}
 use Rattle.cr_expand.specs.declared.notes.Notes.{Notes}
-use Rattle.cr_expand.specs.Definition.{text_of}
+use Rattle.cr_macros.specs.Definition.{text_of}
 use Rattle.cr_expand.specs.Held.{Watch, watch_of, noted, noted_one, held, all_held}
 
 pub flat_map_append : {A B : Type 0} (f : A → List B) (xs ys : List A) → flat_map f (xs ++ ys) ≡ flat_map f xs ++ flat_map f ys

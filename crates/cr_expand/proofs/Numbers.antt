@@ -10,14 +10,14 @@ use Rattle.std.proofs.lemmas.List.Elements.{All-head, All-tail}
 use Rattle.cr_base.specs.NameTable.{IsDistinct}
 use Rattle.std.proofs.Common.{append-nil}
 use Rattle.std.proofs.lemmas.List.{length-map}
-use Rattle.cr_expand.specs.declared.macros.Macro.{Macro}
+use Rattle.cr_macros.specs.declared.macros.Macro.{Macro}
 use Rattle.cr_expand.specs.declared.params.Params.{Params}
-use Rattle.cr_expand.specs.Tokens.{Text, is_ident}
-use Rattle.cr_expand.specs.Definition.{text_of, is_rest}
+use Rattle.cr_macros.specs.Tokens.{Text, is_ident}
+use Rattle.cr_macros.specs.Definition.{text_of, is_rest}
 use Rattle.cr_expand.specs.Held.{IsNamed}
 use Rattle.std.proofs.lemmas.List.{take_more, length-take-le}
 use Rattle.cr_base.specs.declared.token.Name.{Name}
-use Rattle.cr_expand.specs.Substitution.{one_more, index_of, named_params}
+use Rattle.cr_macros.specs.Substitution.{one_more, index_of, named_params}
 use Rattle.cr_expand.specs.Items.{number_of, or_rest, or_else, AreNumbers, Serves}
 
 one_more_or : (b : Bool) (o : Option ℕ) (n : ℕ) → one_more (or_rest b o n) ≡ or_rest b (one_more o) (suc n)

@@ -5,11 +5,11 @@ use Rattle.cr_base.specs.NameTable.{IsDistinct}
 use Rattle.cr_base.specs.declared.token.PpKind.{PpKind}
 use Rattle.cr_base.specs.declared.token.Name.{Name}
 use Rattle.cr_base.specs.declared.cause.Role.TheVariants.{Pasted}
-use Rattle.cr_expand.specs.declared.macros.Seen.{Seen}
-use Rattle.cr_expand.specs.OneToken.{one_token}
-use Rattle.cr_expand.specs.Tokens.{Text, Token, takes, both}
-use Rattle.cr_expand.specs.Definition.{text_of}
-use Rattle.cr_expand.specs.Substitution as spec
+use Rattle.cr_macros.specs.declared.macros.Seen.{Seen}
+use Rattle.cr_macros.specs.OneToken.{one_token}
+use Rattle.cr_macros.specs.Tokens.{Text, Token, takes, both}
+use Rattle.cr_macros.specs.Definition.{text_of}
+use Rattle.cr_macros.specs.Substitution as spec
 use Rattle.cr_expand.specs.HideSets.{Sets, set_at, in_both, Grows}
 use Rattle.cr_expand.specs.Held.{Watch, noted, Does, hidden, IsNamed, AreTables}
 use Rattle.cr_expand.proofs.Noted.{noted_append}

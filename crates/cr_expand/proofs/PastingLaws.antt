@@ -3,14 +3,14 @@ use Rattle.std.proofs.Common.{◌≡◌, ℕ, ◌+◌, ◌<◌, Bool, true, fals
 use Rattle.std.specs.List.{All}
 use Rattle.std.proofs.lemmas.List.Elements.{All-nil, All-cons, All-append, All-get_or}
 use Rattle.cr_base.specs.declared.token.PpTok.{PpTok}
-use Rattle.cr_expand.specs.declared.macros.Seen.{Seen}
+use Rattle.cr_macros.specs.declared.macros.Seen.{Seen}
 use Rattle.cr_expand.specs.declared.held.Held.{Held}
 use Rattle.cr_expand.specs.declared.parts.Part.{Part}
 use Rattle.cr_expand.specs.declared.parts.Part.TheVariants as part
 use Rattle.cr_expand.specs.declared.pasting.Pasting.{Pasting}
-use Rattle.cr_expand.specs.declared.fault.ExpandFault.{ExpandFault}
-use Rattle.cr_expand.specs.Tokens.{Text, Token, token_of, give}
-use Rattle.cr_expand.specs.Substitution as spec
+use Rattle.cr_macros.specs.declared.fault.ExpandFault.{ExpandFault}
+use Rattle.cr_macros.specs.Tokens.{Text, Token, token_of, give}
+use Rattle.cr_macros.specs.Substitution as spec
 use Rattle.cr_expand.specs.HideSets.{Sets, Grows}
 use Rattle.cr_expand.specs.Held.{Watch, Does, Stops, held, all_held, IsKnown, AreKnown, AreTables}
 use Rattle.cr_expand.specs.Parts.{part_text, part_texts, IsPartKnown}

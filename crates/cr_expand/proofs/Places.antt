@@ -5,9 +5,9 @@ use Rattle.std.proofs.lemmas.List.Elements.{All-get_or, All-push, All-head, All-
 use Rattle.std.proofs.lemmas.List.{map-append}
 use Rattle.cr_base.specs.declared.token.PpTok.{PpTok}
 use Rattle.cr_expand.specs.declared.held.Held.{Held}
-use Rattle.cr_expand.specs.Tokens.{Text, Token, token_of, with_names}
-use Rattle.cr_expand.specs.Substitution as spec
-use Rattle.cr_expand.specs.Definition.{text_of}
+use Rattle.cr_macros.specs.Tokens.{Text, Token, token_of, with_names}
+use Rattle.cr_macros.specs.Substitution as spec
+use Rattle.cr_macros.specs.Definition.{text_of}
 use Rattle.cr_expand.specs.HideSets.{Sets, set_at, Grows, AreBelow}
 use Rattle.cr_expand.specs.Held.{held, all_held, hidden, IsNamed, IsKnown, AreKnown, AreTables}
 use Rattle.cr_expand.specs.Placing.{IsPlacedAt, placed_one, IsPlacing, ArePlaced}

@@ -9,7 +9,7 @@ use Rattle.cr_expand.specs.HideSets.{Sets, set_at, grown, sets_of, AreEarlierFro
 use Rattle.std.proofs.Common.{drop, drop-cons}
 use Rattle.std.specs.List.{All}
 use Rattle.std.proofs.lemmas.List.Elements.{All-push, All-cons, All-nil, All-head, All-tail, All-get_or}
-use Rattle.cr_expand.specs.Definition.{has_name}
+use Rattle.cr_macros.specs.Definition.{has_name}
 
 pub earlier_push : (n : ℕ) (xs : List Node) (y : Node) → AreEarlierFrom n xs → y.parent.0 < n + length xs → AreEarlierFrom n (xs ++ y ∷ [])
 earlier_push n [] y h k = (omega arith, tt)

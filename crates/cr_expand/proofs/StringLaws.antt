@@ -3,13 +3,13 @@ use Rattle.std.proofs.Common.{◌≡◌, true, false, List, [], ◌∷◌, ◌++
 use Rattle.std.specs.Prelude.{flat_map, if◌then◌else◌}
 use Rattle.cr_base.specs.declared.token.PpKind.TheVariants.{Str}
 use Rattle.cr_base.specs.declared.cause.Role.TheVariants.{Stringized}
-use Rattle.cr_expand.specs.declared.macros.Seen.{Seen}
+use Rattle.cr_macros.specs.declared.macros.Seen.{Seen}
 use Rattle.cr_expand.specs.declared.held.Held.{Held}
-use Rattle.cr_expand.specs.declared.fault.ExpandFault.{ExpandFault}
-use Rattle.cr_expand.specs.declared.fault.ExpandFault.TheVariants as fault
-use Rattle.cr_expand.specs.OneToken.{is_string}
-use Rattle.cr_expand.specs.Tokens.{Text, Token, BadPaste, note, fail, takes}
-use Rattle.cr_expand.specs.Substitution.{string_of, spelling, spelling_of, spelling_of_rest, in_quotes, made}
+use Rattle.cr_macros.specs.declared.fault.ExpandFault.{ExpandFault}
+use Rattle.cr_macros.specs.declared.fault.ExpandFault.TheVariants as fault
+use Rattle.cr_macros.specs.OneToken.{is_string}
+use Rattle.cr_macros.specs.Tokens.{Text, Token, BadPaste, note, fail, takes}
+use Rattle.cr_macros.specs.Substitution.{string_of, spelling, spelling_of, spelling_of_rest, in_quotes, made}
 use Rattle.cr_expand.specs.HideSets.{Sets}
 use Rattle.cr_expand.specs.Held.{Watch, noted, Does, Stops, held, all_held}
 use Rattle.cr_expand.proofs.Telling.{does_note, stops_fail}

@@ -1,10 +1,10 @@
 -- What is put in, from its parts.
 use Rattle.std.proofs.Common.{◌≡◌, List, ◌++◌, sym, ap, ◌∙◌, subst, append_assoc, None, false}
 use Rattle.cr_base.specs.declared.cause.Role.TheVariants.{MacroName}
-use Rattle.cr_expand.specs.declared.macros.Seen.{Seen}
-use Rattle.cr_expand.specs.declared.fault.ExpandFault.{ExpandFault}
-use Rattle.cr_expand.specs.Tokens.{Text, Token, MacroText, Event, takes, note, give, ◌>>=◌}
-use Rattle.cr_expand.specs.Substitution as spec
+use Rattle.cr_macros.specs.declared.macros.Seen.{Seen}
+use Rattle.cr_macros.specs.declared.fault.ExpandFault.{ExpandFault}
+use Rattle.cr_macros.specs.Tokens.{Text, Token, MacroText, Event, takes, note, give, ◌>>=◌}
+use Rattle.cr_macros.specs.Substitution as spec
 use Rattle.cr_expand.specs.Held.{Watch, noted, Does, Stops}
 use Rattle.cr_expand.proofs.Noted.{noted_append}
 use Rattle.cr_expand.proofs.Telling.{does_then, does_give, does_note, stops_first, stops_then}

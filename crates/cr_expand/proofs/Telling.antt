@@ -1,9 +1,9 @@
 -- Work and then more work.
 use Rattle.std.proofs.Common.{◌≡◌, ℕ, List, ◌++◌, refl, sym, ap, ◌∙◌, append_assoc, append-nil, inl, inr}
-use Rattle.cr_expand.specs.declared.macros.Seen.{Seen}
-use Rattle.cr_expand.specs.declared.fault.ExpandFault.{ExpandFault}
-use Rattle.cr_expand.specs.declared.fault.ExpandFault.TheVariants as fault
-use Rattle.cr_expand.specs.Tokens.{Event, Answer, Gave, Stopped, Work, after, then_do, ◌>>=◌, give, fail, note, Cause}
+use Rattle.cr_macros.specs.declared.macros.Seen.{Seen}
+use Rattle.cr_macros.specs.declared.fault.ExpandFault.{ExpandFault}
+use Rattle.cr_macros.specs.declared.fault.ExpandFault.TheVariants as fault
+use Rattle.cr_macros.specs.Tokens.{Event, Answer, Gave, Stopped, Work, after, then_do, ◌>>=◌, give, fail, note, Cause}
 use Rattle.cr_expand.specs.Held.{Watch, noted, Tells, IsCause, Faults, Does, Stops}
 use Rattle.cr_expand.proofs.Noted.{noted_append}
 

@@ -1,17 +1,15 @@
 -- What a token at the head of a list means, before the tokens behind it are looked at.
-use Rattle.std.specs.Prelude.{◌≡◌, ℕ, ◌<◌, List, length, map, Option, Some, None}
+use Rattle.std.specs.Prelude.{List, map, Option, Some, None}
 use Rattle.std.specs.List.{All}
 use Rattle.cr_base.specs.declared.token.Name.{Name}
-use Rattle.cr_expand.specs.declared.macros.Macro.{Macro}
-use Rattle.cr_expand.specs.declared.held.Held.{Held}
+use Rattle.cr_macros.specs.declared.macros.Macro.{Macro}
 use Rattle.cr_expand.specs.declared.head.Head.{Head}
 use Rattle.cr_expand.specs.declared.head.Head.TheVariants as head
-use Rattle.cr_expand.specs.Tokens.{Text, Token, token_of}
-use Rattle.cr_expand.specs.Expansion as spec
-use Rattle.cr_expand.specs.Definition.{text_of}
-use Rattle.cr_expand.specs.MacroTables.{Macros, macro_text, table_of}
-use Rattle.cr_expand.specs.HideSets.{Sets}
-use Rattle.cr_expand.specs.Held.{held, IsNamed}
+use Rattle.cr_macros.specs.Tokens.{Text, Token}
+use Rattle.cr_macros.specs.Expansion as spec
+use Rattle.cr_macros.specs.Definition.{text_of}
+use Rattle.cr_macros.specs.MacroTables.{Macros, macro_text}
+use Rattle.cr_expand.specs.Held.{IsNamed}
 use Rattle.cr_expand.specs.Items.{IsMacroKnown}
 
 -- a function-like macro's name before a rest; an object-like one

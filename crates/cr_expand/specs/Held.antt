@@ -3,13 +3,13 @@ use Rattle.std.specs.Prelude.{◌≡◌, ℕ, ◌<◌, ◌||◌, if◌then◌els
 use Rattle.std.specs.List.{All}
 use Rattle.cr_base.specs.declared.token.Name.{Name}
 use Rattle.cr_base.specs.NameTable.{IsDistinct}
-use Rattle.cr_expand.specs.declared.macros.Seen.{Seen}
+use Rattle.cr_macros.specs.declared.macros.Seen.{Seen}
 use Rattle.cr_expand.specs.declared.held.Held.{Held}
 use Rattle.cr_expand.specs.declared.notes.Notes.{Notes}
-use Rattle.cr_expand.specs.declared.fault.ExpandFault.{ExpandFault}
-use Rattle.cr_expand.specs.declared.fault.ExpandFault.TheVariants as fault
-use Rattle.cr_expand.specs.Tokens.{Text, Token, token_of, Event, Rule, Taken, Answer, Gave, Stopped, Work, Cause, ArgCount, OpenCall, BadPaste, Over}
-use Rattle.cr_expand.specs.Definition.{text_of}
+use Rattle.cr_macros.specs.declared.fault.ExpandFault.{ExpandFault}
+use Rattle.cr_macros.specs.declared.fault.ExpandFault.TheVariants as fault
+use Rattle.cr_macros.specs.Tokens.{Text, Token, token_of, Event, Rule, Taken, Answer, Gave, Stopped, Work, Cause, ArgCount, OpenCall, BadPaste, Over}
+use Rattle.cr_macros.specs.Definition.{text_of}
 use Rattle.cr_expand.specs.HideSets.{Sets, set_at}
 
 -- the texts of a hide set

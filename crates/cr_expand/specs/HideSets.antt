@@ -2,7 +2,7 @@
 use Rattle.std.specs.Prelude.{◌≡◌, ℕ, suc, ◌<◌, if◌then◌else◌, List, [], ◌∷◌, ◌++◌, length, fold, slice_index_or}
 use Rattle.std.specs.List.{All}
 use Rattle.cr_base.specs.declared.token.Name.{Name}
-use Rattle.cr_expand.specs.Definition.{has_name}
+use Rattle.cr_macros.specs.Definition.{has_name}
 use Rattle.cr_expand.specs.declared.hide_sets.Node.{Node}
 
 abbrev pub Sets : Type 0

@@ -3,16 +3,16 @@ use Rattle.std.specs.Prelude.{◌≡◌, ℕ, ◌==◌, Bool, false, if◌then�
 use Rattle.std.specs.List.{All}
 use Rattle.cr_base.specs.declared.token.Name.{Name}
 use Rattle.cr_base.specs.declared.token.PpTok.{PpTok}
-use Rattle.cr_expand.specs.declared.macros.Macro.{Macro}
+use Rattle.cr_macros.specs.declared.macros.Macro.{Macro}
 use Rattle.cr_expand.specs.declared.items.Item.{Item}
 use Rattle.cr_expand.specs.declared.items.Item.TheVariants as item
 use Rattle.indexmap.specs.IndexMap.{get}
 use Rattle.cr_expand.specs.declared.params.Params.{Params}
-use Rattle.cr_expand.specs.Definition.{is_rest}
-use Rattle.cr_expand.specs.Tokens.{Text, Token, token_of, is_ident}
-use Rattle.cr_expand.specs.Substitution.{param}
-use Rattle.cr_expand.specs.MacroTables.{macro_text}
-use Rattle.cr_expand.specs.Substitution as spec
+use Rattle.cr_macros.specs.Definition.{is_rest}
+use Rattle.cr_macros.specs.Tokens.{Text, Token, token_of, is_ident}
+use Rattle.cr_macros.specs.Substitution.{param}
+use Rattle.cr_macros.specs.MacroTables.{macro_text}
+use Rattle.cr_macros.specs.Substitution as spec
 use Rattle.cr_expand.specs.Held.{IsNamed}
 
 -- the place of the first of these names that is this one

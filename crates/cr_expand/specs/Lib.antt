@@ -1,9 +1,3 @@
-pub mod OneToken
-pub mod Tokens
-pub mod Substitution
-pub mod Expansion
-pub mod Definition
-pub mod MacroTables
 pub mod HideSets
 pub mod Held
 pub mod Items
@@ -11,4 +5,3 @@ pub mod Parts
 pub mod Pasting
 pub mod Placing
 pub mod Heading
-pub mod Laws

@@ -2,15 +2,15 @@
 use Rattle.std.specs.Prelude.{◌≡◌, ℕ, suc, Bool, List, [], ◌∷◌, ◌++◌, map, slice_index_or}
 use Rattle.std.specs.List.{All}
 use Rattle.cr_base.specs.declared.token.PpTok.{PpTok}
-use Rattle.cr_expand.specs.declared.macros.Seen.{Seen}
+use Rattle.cr_macros.specs.declared.macros.Seen.{Seen}
 use Rattle.cr_expand.specs.declared.held.Held.{Held}
 use Rattle.cr_expand.specs.declared.items.Item.{Item}
 use Rattle.cr_expand.specs.declared.items.Item.TheVariants as item
 use Rattle.cr_expand.specs.declared.parts.Part.{Part}
 use Rattle.cr_expand.specs.declared.parts.Part.TheVariants as part
-use Rattle.cr_expand.specs.declared.fault.ExpandFault.{ExpandFault}
-use Rattle.cr_expand.specs.Tokens.{Text, Token, token_of, Work}
-use Rattle.cr_expand.specs.Substitution as spec
+use Rattle.cr_macros.specs.declared.fault.ExpandFault.{ExpandFault}
+use Rattle.cr_macros.specs.Tokens.{Text, Token, token_of, Work}
+use Rattle.cr_macros.specs.Substitution as spec
 use Rattle.cr_base.specs.NameTable.{IsDistinct}
 use Rattle.cr_expand.specs.HideSets.{Sets, Grows}
 use Rattle.cr_expand.specs.Held.{held, all_held, all_args, IsKnown, Watch, Does, Stops}

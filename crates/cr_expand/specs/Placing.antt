@@ -2,8 +2,8 @@
 use Rattle.std.specs.Prelude.{◌≡◌, ℕ, Bool, List, ◌++◌, map}
 use Rattle.cr_base.specs.declared.token.PpTok.{PpTok}
 use Rattle.cr_expand.specs.declared.held.Held.{Held}
-use Rattle.cr_expand.specs.Tokens.{Text, Token, with_names}
-use Rattle.cr_expand.specs.Substitution as spec
+use Rattle.cr_macros.specs.Tokens.{Text, Token, with_names}
+use Rattle.cr_macros.specs.Substitution as spec
 use Rattle.cr_expand.specs.HideSets.{Sets, set_at, with_numbers, Puts, Grows}
 use Rattle.cr_expand.specs.Held.{all_held, AreTables, AreKnown}
 

@@ -2,15 +2,14 @@
 ghost use Rattle.std.specs.Prelude.{◌≡◌, ◌+◌, ◌-◌, ◌<◌, ◌≤◌, ◌^◌, ◌++◌, [], IfOk, IfErr, OnOk, length, List, map};
 ghost use Rattle.std.specs.List.{All};
 ghost use Rattle.cr_base.specs.NameTable.{IsDistinct};
-ghost use Rattle.cr_expand.specs.Substitution as spec;
-ghost use Rattle.cr_expand.specs.Tokens.{Text, token_of};
+ghost use Rattle.cr_macros.specs.Substitution as spec;
+ghost use Rattle.cr_macros.specs.Tokens.{Text, token_of};
 ghost use Rattle.cr_expand.specs.HideSets.{Grows, set_at};
 ghost use Rattle.cr_expand.specs.Held.{held, all_args, IsKnown, AreKnown, IsNamed, AreTables, watch_of, Does, Stops};
 ghost use Rattle.cr_expand.specs.declared.held.Held.{Held as TheHeld};
 ghost use Rattle.cr_expand.specs.Items.{item_text, item_texts, IsTokenNamed};
 ghost use Rattle.cr_expand.specs.Parts.{joins, part_text, part_texts, IsPartKnown, IsItemNamed, filled_here, IsMade, Adds, filled_text, all_filled_text};
 
-use crate::fault::ExpandFault;
 use crate::held::Held;
 use crate::hide_sets::HideSets;
 use crate::items::Item;
@@ -18,6 +17,7 @@ use crate::notes::Notes;
 use crate::parts::{Part, arg, put_item, unhidden};
 use crate::strings::string_of;
 use cr_base::{NameTable, PpTok};
+use cr_macros::ExpandFault;
 use std::alloc::Global;
 
 // The string of an item that is one; of another item the token itself, which isn't used.

@@ -1,19 +1,17 @@
 //! What a token at the head of a list means.
 ghost use Rattle.std.specs.Prelude.{◌≡◌, ◌||◌, not, List};
 ghost use Rattle.cr_base.specs.NameTable.{IsDistinct};
-ghost use Rattle.cr_expand.specs.Expansion as spec;
-ghost use Rattle.cr_expand.specs.Tokens.{Text, Token, token_of, is_ident, has};
-ghost use Rattle.cr_expand.specs.Definition.{text_of};
-ghost use Rattle.cr_expand.specs.MacroTables.{table_of};
+ghost use Rattle.cr_macros.specs.Expansion as spec;
+ghost use Rattle.cr_macros.specs.Tokens.{Text, Token, token_of, is_ident, has};
+ghost use Rattle.cr_macros.specs.Definition.{text_of};
+ghost use Rattle.cr_macros.specs.MacroTables.{table_of};
 ghost use Rattle.cr_expand.specs.Held.{held, hidden, IsKnown, IsNamed, AreTables};
 ghost use Rattle.cr_expand.specs.Heading.{use_text, AreMacrosKnown};
 
 use crate::held::Held;
 use crate::hide_sets::HideSets;
-use crate::macro_table::MacroTable;
-use crate::macros::Macro;
-use crate::words::{Predefined, is_ident, predefined_named, text};
 use cr_base::NameTable;
+use cr_macros::{Macro, MacroTable, Predefined, is_ident, predefined_named, text};
 
 /// What a token means before the tokens behind it are looked at: it stays, or it names a
 /// predefined macro, or another one.

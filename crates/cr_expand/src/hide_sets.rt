@@ -1,7 +1,7 @@
 //! Hide sets by number, so that a token carries its set without a copy.
 ghost use Rattle.std.specs.Prelude.{◌≡◌, ℕ, ◌<◌, [], ◌∷◌, ◌^◌, IfOk, OnOk, OnErr, Some, MatchOption, if◌then◌else◌, length, slice_get};
 ghost use Rattle.indexmap.specs.IndexSet.{insert_key};
-ghost use Rattle.cr_expand.specs.Definition.{has_name};
+ghost use Rattle.cr_macros.specs.Definition.{has_name};
 ghost use Rattle.cr_expand.specs.HideSets.{set_at, with_number, with_numbers, in_both, Puts, AreBelow, grown, AreEarlier, sets_of};
 
 use cr_base::{Name, OutOfMemory};

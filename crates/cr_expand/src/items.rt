@@ -3,15 +3,14 @@ ghost use Rattle.std.specs.Prelude.{◌≡◌, ◌≤◌, bytes_eq, codes, ◌�
 ghost use Rattle.std.specs.List.{All};
 ghost use Rattle.cr_expand.specs.Parts.{IsItemNamed};
 ghost use Rattle.cr_expand.specs.Items.{IsPairNamed, found_text, item_text, item_texts, with_text, Serves, IsTokenNamed, IsMacroKnown};
-ghost use Rattle.cr_expand.specs.Substitution as spec;
-ghost use Rattle.cr_expand.specs.Tokens.{Text, token_of, tokens_of, is_mark};
-ghost use Rattle.cr_expand.specs.MacroTables.{macro_text};
+ghost use Rattle.cr_macros.specs.Substitution as spec;
+ghost use Rattle.cr_macros.specs.Tokens.{Text, token_of, tokens_of, is_mark};
+ghost use Rattle.cr_macros.specs.MacroTables.{macro_text};
 ghost use Rattle.cr_base.specs.NameTable.{IsDistinct};
 
-use crate::macros::Macro;
 use crate::params::Params;
-use crate::words::{is_hash, is_mark, is_paste, text};
 use cr_base::{NameTable, OutOfMemory, PpTok};
+use cr_macros::{Macro, is_hash, is_mark, is_paste, text};
 use std::alloc::Global;
 
 /// An item of a body, with the number of its parameter (C11 6.10.3.1 to 6.10.3.3).

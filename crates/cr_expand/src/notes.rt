@@ -1,14 +1,13 @@
 //! Which places were taken for what.
 ghost use Rattle.std.specs.Prelude.{◌≡◌, ◌++◌, ◌||◌, bytes_eq, OnOk, map, flat_map, ℕ, List};
-ghost use Rattle.cr_expand.specs.Definition.{text_of};
-ghost use Rattle.cr_expand.specs.Tokens.{Text, token_of, takes};
+ghost use Rattle.cr_macros.specs.Definition.{text_of};
+ghost use Rattle.cr_macros.specs.Tokens.{Text, token_of, takes};
 ghost use Rattle.cr_expand.specs.HideSets.{Sets};
 ghost use Rattle.cr_expand.specs.Held.{noted, watch_of, all_held};
 
 use crate::held::Held;
-use crate::macros::Seen;
-use crate::words::{is_ident, text};
 use cr_base::{Name, NameTable, Origin, OutOfMemory, PpTok, Role};
+use cr_macros::{Seen, is_ident, text};
 
 /// The places of identifiers with one of two names, each time that one is taken for something.
 #[derive(Drop)]

@@ -4,12 +4,11 @@ ghost use Rattle.indexmap.specs.IndexMap.{get};
 ghost use Rattle.cr_base.specs.NameTable.{IsDistinct};
 ghost use Rattle.cr_base.specs.declared.token.Name.{Name as TheName};
 ghost use Rattle.cr_expand.specs.Items.{number_of, or_rest, AreNumbers, looked_up, IsMacroKnown, Serves};
-ghost use Rattle.cr_expand.specs.Definition.{is_rest};
-ghost use Rattle.cr_expand.specs.Tokens.{is_ident};
+ghost use Rattle.cr_macros.specs.Definition.{is_rest};
+ghost use Rattle.cr_macros.specs.Tokens.{is_ident};
 
-use crate::macros::Macro;
-use crate::words::{is_ident, is_rest};
 use cr_base::{Name, NameTable, OutOfMemory, PpTok};
+use cr_macros::{Macro, is_ident, is_rest};
 use indexmap::IndexMap;
 use std::alloc::Global;
 

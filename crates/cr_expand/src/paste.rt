@@ -1,20 +1,18 @@
 //! `##` (C11 6.10.3.3).
 ghost use Rattle.std.specs.Prelude.{◌≡◌, ◌+◌, ◌-◌, ◌<◌, ◌≤◌, ◌^◌, ◌++◌, [], IfOk, IfErr, OnOk, length, List};
 ghost use Rattle.cr_base.specs.NameTable.{IsDistinct};
-ghost use Rattle.cr_expand.specs.Substitution as spec;
-ghost use Rattle.cr_expand.specs.Definition.{text_of};
-ghost use Rattle.cr_expand.specs.Tokens.{Text, token_of};
+ghost use Rattle.cr_macros.specs.Substitution as spec;
+ghost use Rattle.cr_macros.specs.Definition.{text_of};
+ghost use Rattle.cr_macros.specs.Tokens.{Text, token_of};
 ghost use Rattle.cr_expand.specs.HideSets.{Grows};
 ghost use Rattle.cr_expand.specs.Held.{held, IsKnown, IsNamed, AreTables, watch_of, Does, Stops};
 
-use crate::fault::ExpandFault;
 use crate::held::Held;
 use crate::hide_sets::HideSets;
 use crate::notes::Notes;
-use crate::one_token::one_token;
 use crate::strings::made;
-use crate::words::text;
 use cr_base::{NameTable, OutOfMemory, PpTok, Role};
+use cr_macros::{ExpandFault, one_token, text};
 use std::alloc::Global;
 
 fn joined(alloc: Global, names: &NameTable, a: PpTok, b: PpTok) -> Result<Vec<u8>, OutOfMemory>

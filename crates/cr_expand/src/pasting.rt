@@ -1,8 +1,8 @@
 //! The pastes of a body, from left to right.
 ghost use Rattle.std.specs.Prelude.{◌≡◌, ◌+◌, ◌-◌, ◌<◌, ◌≤◌, ◌^◌, ◌++◌, ◌∷◌, [], Some, None, IfOk, IfErr, OnOk, length, List, false};
 ghost use Rattle.cr_expand.specs.declared.held.Held.{Held as TheHeld};
-ghost use Rattle.cr_expand.specs.Substitution as spec;
-ghost use Rattle.cr_expand.specs.Tokens.{Text, token_of};
+ghost use Rattle.cr_macros.specs.Substitution as spec;
+ghost use Rattle.cr_macros.specs.Tokens.{Text, token_of};
 ghost use Rattle.cr_expand.specs.HideSets.{Grows};
 ghost use Rattle.std.specs.List.{All};
 ghost use Rattle.cr_expand.specs.Items.{IsTokenNamed};
@@ -10,13 +10,13 @@ ghost use Rattle.cr_expand.specs.Held.{held, all_held, IsKnown, AreKnown, IsName
 ghost use Rattle.cr_expand.specs.Pasting.{pending, left_text, IsLeftKnown, or_none, Takes};
 ghost use Rattle.cr_expand.specs.Parts.{joins, part_text, part_texts, IsPartKnown};
 
-use crate::fault::ExpandFault;
 use crate::held::Held;
 use crate::hide_sets::HideSets;
 use crate::notes::Notes;
 use crate::parts::Part;
 use crate::paste::paste;
 use cr_base::{NameTable, OutOfMemory, PpTok};
+use cr_macros::ExpandFault;
 use std::alloc::Global;
 
 /// What is put behind one another, the token on the left, and whether `##` is directly behind it.

@@ -2,8 +2,8 @@
 ghost use Rattle.std.specs.Prelude.{◌≡◌, ℕ, ◌<◌, ◌++◌, ◌∷◌, [], IfOk, OnOk, length, List, map};
 ghost use Rattle.std.specs.List.{All};
 ghost use Rattle.cr_expand.specs.declared.held.Held.{Held as TheHeld};
-ghost use Rattle.cr_expand.specs.Substitution as spec;
-ghost use Rattle.cr_expand.specs.Tokens.{Text, token_of};
+ghost use Rattle.cr_macros.specs.Substitution as spec;
+ghost use Rattle.cr_macros.specs.Tokens.{Text, token_of};
 ghost use Rattle.cr_expand.specs.HideSets.{Grows, AreBelow};
 ghost use Rattle.cr_expand.specs.Held.{held, all_held, hidden, IsKnown, AreKnown, AreTables};
 ghost use Rattle.cr_expand.specs.Placing.{placed_one, IsPlacedAt, IsPlacing, ArePlaced};

@@ -1,11 +1,11 @@
 //! The spelling of an argument (C11 6.10.3.2).
 ghost use Rattle.std.specs.Prelude.{◌≡◌, ◌++◌, ◌∷◌, [], if◌then◌else◌, OnOk, IfOk};
-ghost use Rattle.cr_expand.specs.Substitution as spec;
+ghost use Rattle.cr_macros.specs.Substitution as spec;
 ghost use Rattle.cr_expand.specs.Held.{held, all_held};
 
 use crate::held::Held;
-use crate::words::text;
 use cr_base::{NameTable, OutOfMemory, PpKind};
+use cr_macros::text;
 use std::alloc::Global;
 
 fn is_quoted(kind: PpKind) -> bool

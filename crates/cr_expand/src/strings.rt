@@ -2,19 +2,18 @@
 ghost use Rattle.std.specs.Prelude.{◌≡◌, ◌+◌, ◌-◌, ◌<◌, ◌≤◌, ◌^◌, [], IfOk, IfErr, length, List};
 ghost use Rattle.cr_base.specs.NameTable.{IsDistinct};
 ghost use Rattle.cr_base.specs.declared.token.PpTok.{PpTok as ThePpTok};
-ghost use Rattle.cr_expand.specs.Substitution as spec;
-ghost use Rattle.cr_expand.specs.Definition.{text_of};
-ghost use Rattle.cr_expand.specs.Tokens.{Text, token_of};
+ghost use Rattle.cr_macros.specs.Substitution as spec;
+ghost use Rattle.cr_macros.specs.Definition.{text_of};
+ghost use Rattle.cr_macros.specs.Tokens.{Text, token_of};
 ghost use Rattle.cr_expand.specs.HideSets.{Grows};
 ghost use Rattle.cr_expand.specs.Held.{held, all_held, IsKnown, watch_of, Does, Stops};
 
-use crate::fault::ExpandFault;
 use crate::held::Held;
 use crate::hide_sets::HideSets;
 use crate::notes::Notes;
-use crate::one_token::is_string;
 use crate::spelling::quoted_spelling;
 use cr_base::{Name, NameTable, Origin, PpKind, PpTok, Role};
+use cr_macros::{ExpandFault, is_string};
 use std::alloc::Global;
 
 /// A token that was made in the place of a macro's name.

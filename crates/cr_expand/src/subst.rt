@@ -2,27 +2,26 @@
 ghost use Rattle.std.specs.Prelude.{◌≡◌, ◌+◌, ◌-◌, ◌<◌, ◌≤◌, ◌^◌, ◌*◌, ◌++◌, ◌∷◌, [], IfOk, IfErr, OnOk, length, List, map, Bool, ℕ, false, ◌||◌, if◌then◌else◌, flat_map, slice_index_or, vec_len};
 ghost use Rattle.std.specs.List.{list_any, All};
 ghost use Rattle.cr_expand.specs.declared.items.Item.{Item as TheItem};
-ghost use Rattle.cr_expand.specs.Substitution as spec;
-ghost use Rattle.cr_expand.specs.Tokens.{Text, token_of, takes};
+ghost use Rattle.cr_macros.specs.Substitution as spec;
+ghost use Rattle.cr_macros.specs.Tokens.{Text, token_of, takes};
 ghost use Rattle.cr_expand.specs.HideSets.{Sets, Grows};
 ghost use Rattle.cr_expand.specs.Held.{noted, watch_of, all_args, all_held, hidden, AreKnown, AreTables, IsNamed, Does, Stops};
-ghost use Rattle.cr_expand.specs.MacroTables.{macro_text};
+ghost use Rattle.cr_macros.specs.MacroTables.{macro_text};
 ghost use Rattle.cr_base.specs.declared.cause.Role.TheVariants.{Dropped, MacroName};
 ghost use Rattle.cr_base.specs.NameTable.{IsDistinct};
 ghost use Rattle.cr_expand.specs.Parts.{IsItemNamed};
 ghost use Rattle.cr_expand.specs.Items.{item_text, item_texts, is_number, IsTokenNamed, IsMacroKnown};
 
-use crate::fault::ExpandFault;
 use crate::fill::fill;
 use crate::held::Held;
 use crate::hide_sets::{HideSet, HideSets};
 use crate::items::{Item, items};
-use crate::macros::Macro;
 use crate::notes::Notes;
 use crate::params::Params;
 use crate::pasting::paste_all;
 use crate::place::place;
 use cr_base::{NameTable, OutOfMemory, PpTok, Role};
+use cr_macros::{ExpandFault, Macro};
 use std::alloc::Global;
 
 // The number of the argument that an item uses.

@@ -3,7 +3,7 @@ use Rattle.std.proofs.Common.{◌≡◌, ℕ, ◌-◌, Bool, true, false, cond, 
 use Rattle.std.specs.Prelude.{nat_lt}
 use Rattle.std.specs.List.{AllByRecursion}
 use Rattle.std.proofs.lemmas.List.{map-append}
-use Rattle.cr_expand.specs.Tokens.{Event, Rule, Over, Answer, Gave, Stopped, Work, after, then_do, ◌>>=◌, give, note, pay}
+use Rattle.cr_macros.specs.Tokens.{Event, Rule, Over, Answer, Gave, Stopped, Work, after, then_do, ◌>>=◌, give, note, pay}
 use Rattle.cr_expand_law.specs.Renaming.{Renaming, renamed_event, IsHarmless}
 
 abbrev pub renamed_events : Renaming → List Event → List Event

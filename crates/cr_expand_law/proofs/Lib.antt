@@ -3,4 +3,5 @@ pub mod Renamed
 pub mod Items
 pub mod Calls
 pub mod Law
+pub mod Uses
 mod Rows

@@ -1,13 +1,13 @@
 -- A worked example: `foo` is renamed `bar` in the body of `#define F(x) foo x` and in `F(foo)`.
-use Rattle.std.specs.Prelude.{◌≡◌, ℕ, Bool, true, false, ◌||◌, ◌==◌, if◌then◌else◌, List, [], ◌∷◌, map, codes, bytes_eq, Option, Some, None, refl}
+use Rattle.std.specs.Prelude.{◌≡◌, ℕ, Bool, true, false, ◌||◌, ◌==◌, ◌+◌, if◌then◌else◌, List, [], ◌∷◌, map, codes, bytes_eq, Option, Some, None, refl}
 use Rattle.std.proofs.Common.{subst}
 use Rattle.std.specs.List.{AllByRecursion}
 use Rattle.cr_base.specs.declared.token.PpKind.{PpKind}
 use Rattle.cr_base.specs.declared.token.PpKind.TheVariants.{Ident, Punct}
 use Rattle.cr_base.specs.declared.token.Place.{Place}
 use Rattle.cr_base.specs.declared.token.Origin.TheVariants.{At}
-use Rattle.cr_expand.specs.Tokens.{Text, Token, MacroText, Event, Answer, Gave, Stopped}
-use Rattle.cr_expand.specs.Expansion.{Table, expand}
+use Rattle.cr_macros.specs.Tokens.{Text, Token, MacroText, Event, Answer, Gave, Stopped}
+use Rattle.cr_macros.specs.Expansion.{Table, expand}
 use Rattle.cr_expand_law.specs.Renaming.{Renaming, all_renamed, renamed_table, IsHarmless, IsNoParameter, IsFree}
 
 abbrev at : ℕ → Place
@@ -27,7 +27,7 @@ abbrev call : List Token
 call = token Ident (codes "F") 30 ∷ token Punct (codes "(") 31 ∷ token Ident (codes "foo") 32 ∷ token Punct (codes ")") 35 ∷ []
 
 abbrev renaming : Renaming
-renaming = record { is_place = λ place. place.offset == 20 || place.offset == 32; old = codes "foo"; new = codes "bar" }
+renaming = record { is_place = λ place. place.offset == 20 || place.offset == 32; old = codes "foo"; new = codes "bar"; shift = λ place. record place { offset = place.offset + 100 } }
 
 abbrev texts : Answer (List Token) → List Text
 texts (Gave ts left events) = map {A = Token} (λ t. t.text) ts

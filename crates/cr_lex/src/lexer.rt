@@ -37,11 +37,7 @@ fn line_from(bytes: &[u8], spot: Spot, at: usize) -> usize
 }
 
 // The name of what is written in a token, and whether there is a join inside.
-fn name_of(
-    names: &mut NameTable,
-    bytes: &[u8],
-    own: Own,
-) -> Result<(Name, bool), OutOfMemory>
+fn name_of(names: &mut NameTable, bytes: &[u8], own: Own) -> Result<(Name, bool), OutOfMemory>
     requires room { length names.old < 2 ^ 32 - 1 }
     requires own { IsOwn bytes.now own.at own }
     ensures name { IfOk result (λ r. Interns names.old (text_of (own_cells bytes.now own.at own.end)) names.new r.0.0) }

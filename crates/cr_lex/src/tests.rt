@@ -203,11 +203,7 @@ fn joins_lines_and_white_space_are_told(rt: HostRuntime) -> Result<(), Fail> {
     Ok(())
 }
 
-fn step(
-    lexer: &mut Lexer,
-    names: &mut NameTable,
-    bytes: &[u8],
-) -> Result<LexStep, OutOfMemory>
+fn step(lexer: &mut Lexer, names: &mut NameTable, bytes: &[u8]) -> Result<LexStep, OutOfMemory>
     requires { IsIn bytes.now lexer.old }
     ensures { IsIn bytes.now lexer.new }
 {

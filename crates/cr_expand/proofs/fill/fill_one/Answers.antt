@@ -1,6 +1,6 @@
 use Rattle.std.proofs.Common.{map}
 use Rattle.std.proofs.lemmas.Result.{err_from_is_err_and}
-use Rattle.cr_expand.specs.Tokens.{token_of}
+use Rattle.cr_macros.specs.Tokens.{token_of}
 use Rattle.cr_expand.specs.Held.{watch_of}
 use Rattle.cr_expand.specs.Parts.{filled_here}
 use Rattle.std.proofs.Common.{ap, arith}

@@ -1,6 +1,6 @@
 use Rattle.std.proofs.Common.{◌∙◌, sym}
-use Rattle.cr_expand.specs.Tokens.{is_ident, has}
-use Rattle.cr_expand.specs.Definition.{text_of}
+use Rattle.cr_macros.specs.Tokens.{is_ident, has}
+use Rattle.cr_macros.specs.Definition.{text_of}
 use Rattle.cr_expand.specs.Held.{hidden}
 use Rattle.cr_expand.proofs.Headings.{hidden_has, not_kept}
 use Rattle.cr_expand.proofs.head.is_kept.Goals as goal

@@ -1,7 +1,6 @@
-use Rattle.std.proofs.Common.{◌≡◌, ◌∙◌, sym, ap, None, Some}
+use Rattle.std.proofs.Common.{◌∙◌, sym, ap}
 use Rattle.std.specs.Option.{option_copied}
-use Rattle.cr_expand.specs.Expansion as spec
-use Rattle.cr_expand.specs.MacroTables.{macro_named}
+use Rattle.cr_macros.specs.Expansion as spec
 use Rattle.cr_expand.proofs.Headings.{use_none, use_named}
 use Rattle.cr_expand.proofs.head.named.Goals as goal
 

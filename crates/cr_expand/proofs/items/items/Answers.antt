@@ -1,5 +1,5 @@
 use Rattle.std.proofs.Common.{arith, ◌++◌, sym, ap, ◌∙◌}
-use Rattle.cr_expand.specs.MacroTables.{macro_text}
+use Rattle.cr_macros.specs.MacroTables.{macro_text}
 use Rattle.cr_expand.specs.Items.{item_texts}
 use Rattle.cr_expand.proofs.Bodies.{items_skip}
 use Rattle.cr_expand.proofs.items.items.Goals as goal

@@ -1,7 +1,7 @@
 use Rattle.std.proofs.Common.{◌≡◌, ◌++◌, drop}
-use Rattle.cr_expand.specs.Tokens.{tokens_of}
-use Rattle.cr_expand.specs.MacroTables.{macro_text}
-use Rattle.cr_expand.specs.Substitution as spec
+use Rattle.cr_macros.specs.Tokens.{tokens_of}
+use Rattle.cr_macros.specs.MacroTables.{macro_text}
+use Rattle.cr_macros.specs.Substitution as spec
 use Rattle.std.specs.List.{All}
 use Rattle.std.proofs.Common.{◌≤◌, length}
 use Rattle.cr_expand.specs.Parts.{IsItemNamed}

@@ -1,10 +1,10 @@
 use Rattle.std.proofs.Common.{◌≡◌, ◌<◌, ◌∙◌, ◌++◌, [], sym, ap, subst, List, length}
 use Rattle.std.proofs.lemmas.Option.{get_or_from_slice_get, slice_get_within}
-use Rattle.cr_expand.specs.OneToken.{one_token}
-use Rattle.cr_expand.specs.Tokens.{Text, token_of, takes}
+use Rattle.cr_macros.specs.OneToken.{one_token}
+use Rattle.cr_macros.specs.Tokens.{Text, token_of, takes}
 use Rattle.cr_base.specs.declared.cause.Role.TheVariants.{Pasted}
-use Rattle.cr_expand.specs.Substitution as spec
-use Rattle.cr_expand.specs.Definition.{text_of}
+use Rattle.cr_macros.specs.Substitution as spec
+use Rattle.cr_macros.specs.Definition.{text_of}
 use Rattle.cr_expand.specs.HideSets.{Grows}
 use Rattle.cr_expand.specs.Held.{watch_of, held, hidden, noted}
 use Rattle.cr_expand.proofs.Noted.{same_watch}

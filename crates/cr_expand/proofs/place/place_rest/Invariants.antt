@@ -1,5 +1,5 @@
 use Rattle.std.proofs.Common.{◌++◌, [], drop, map}
-use Rattle.cr_expand.specs.Tokens.{token_of}
+use Rattle.cr_macros.specs.Tokens.{token_of}
 use Rattle.cr_expand.specs.Held.{all_held, hidden}
 use Rattle.cr_expand.specs.Placing.{IsPlacing, placed_one}
 use Rattle.cr_expand.proofs.place.place_rest.Given as goal

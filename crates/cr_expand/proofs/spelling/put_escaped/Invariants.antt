@@ -1,5 +1,5 @@
 use Rattle.std.proofs.Common.{◌≡◌, ◌++◌, drop}
-use Rattle.cr_expand.specs.Substitution.{escaped}
+use Rattle.cr_macros.specs.Substitution.{escaped}
 use Rattle.cr_expand.proofs.spelling.put_escaped.Given as goal
 
 abbrev pub invariant-loop-i : goal.invariant-loop-i

@@ -1,6 +1,6 @@
 use Rattle.std.proofs.Common.{◌≡◌, ◌++◌, drop, []}
 use Rattle.cr_expand.specs.Held.{all_held}
-use Rattle.cr_expand.specs.Substitution.{spelling_of_rest}
+use Rattle.cr_macros.specs.Substitution.{spelling_of_rest}
 use Rattle.cr_expand.proofs.spelling.put_rest.Given as goal
 
 abbrev pub invariant-loop-i : goal.invariant-loop-i

@@ -1,9 +1,9 @@
 use Rattle.std.proofs.Common.{◌≡◌, ◌∙◌, [], map, sym, ap, subst, rules, List, length, ◌<◌, refl}
 use Rattle.std.proofs.lemmas.Option.{get_or_from_slice_get, slice_get_within}
-use Rattle.cr_expand.specs.Tokens.{Text, Token, token_of}
-use Rattle.cr_expand.specs.OneToken.{is_string}
-use Rattle.cr_expand.specs.Substitution as spec
-use Rattle.cr_expand.specs.Definition.{text_of}
+use Rattle.cr_macros.specs.Tokens.{Text, Token, token_of}
+use Rattle.cr_macros.specs.OneToken.{is_string}
+use Rattle.cr_macros.specs.Substitution as spec
+use Rattle.cr_macros.specs.Definition.{text_of}
 use Rattle.cr_expand.specs.Held.{all_held, watch_of, hidden}
 use Rattle.cr_base.specs.declared.token.PpKind.TheVariants.{Str}
 use Rattle.cr_expand.proofs.Telling.{stops_memory}

@@ -2,7 +2,7 @@ use Rattle.std.proofs.Common.{◌≡◌, ℕ, ◌<◌, ◌++◌, List, false, dr
 use Rattle.std.specs.Prelude.{slice_index_or}
 use Rattle.std.specs.List.{list_any}
 use Rattle.cr_expand.specs.declared.items.Item.{Item}
-use Rattle.cr_expand.specs.Substitution as spec
+use Rattle.cr_macros.specs.Substitution as spec
 use Rattle.cr_expand.specs.HideSets.{Sets}
 use Rattle.cr_expand.specs.Held.{noted, watch_of, all_args}
 use Rattle.cr_expand.specs.Items.{item_texts}

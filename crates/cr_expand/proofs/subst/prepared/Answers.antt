@@ -2,9 +2,9 @@ use Rattle.std.proofs.Common.{◌∙◌, [], sym, ap, map, false}
 use Rattle.std.specs.Prelude.{slice_index_or}
 use Rattle.std.specs.List.{list_any}
 use Rattle.cr_base.specs.declared.cause.Role.TheVariants.{MacroName}
-use Rattle.cr_expand.specs.Tokens.{token_of, takes}
-use Rattle.cr_expand.specs.Substitution as spec
-use Rattle.cr_expand.specs.MacroTables.{macro_text}
+use Rattle.cr_macros.specs.Tokens.{token_of, takes}
+use Rattle.cr_macros.specs.Substitution as spec
+use Rattle.cr_macros.specs.MacroTables.{macro_text}
 use Rattle.cr_expand.specs.Held.{watch_of, all_args}
 use Rattle.cr_expand.specs.Items.{item_texts}
 use Rattle.cr_expand.proofs.Noted.{same_watch}

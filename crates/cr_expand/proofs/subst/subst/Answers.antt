@@ -1,8 +1,8 @@
 use Rattle.std.proofs.Common.{◌≡◌, ◌∙◌, List, None, false, ap, map, subst}
 use Rattle.std.proofs.lemmas.Result.{err_from_is_err_and}
-use Rattle.cr_expand.specs.Tokens.{Token, token_of}
-use Rattle.cr_expand.specs.Substitution as spec
-use Rattle.cr_expand.specs.MacroTables.{macro_text}
+use Rattle.cr_macros.specs.Tokens.{Token, token_of}
+use Rattle.cr_macros.specs.Substitution as spec
+use Rattle.cr_macros.specs.MacroTables.{macro_text}
 use Rattle.cr_expand.specs.Held.{Watch, watch_of, all_args, all_held, hidden, Does, Stops}
 use Rattle.cr_expand.specs.Items.{item_texts}
 use Rattle.cr_expand.specs.Parts.{part_texts, all_filled_text}

@@ -1,8 +1,8 @@
 use Rattle.std.proofs.Common.{◌≡◌, ℕ, ◌<◌, List, false, vec_len, drop}
 use Rattle.std.specs.Prelude.{slice_index_or, ◌||◌}
 use Rattle.std.specs.List.{list_any}
-use Rattle.cr_expand.specs.Tokens.{Text}
-use Rattle.cr_expand.specs.Substitution as spec
+use Rattle.cr_macros.specs.Tokens.{Text}
+use Rattle.cr_macros.specs.Substitution as spec
 use Rattle.cr_expand.specs.Items.{item_texts}
 use Rattle.cr_expand.proofs.subst.used_arguments.Given as goal
 

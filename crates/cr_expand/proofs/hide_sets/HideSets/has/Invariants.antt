@@ -1,5 +1,5 @@
 use Rattle.std.proofs.Common.{◌≡◌, ◌<◌, length}
-use Rattle.cr_expand.specs.Definition.{has_name}
+use Rattle.cr_macros.specs.Definition.{has_name}
 use Rattle.cr_expand.specs.HideSets.{set_at}
 use Rattle.cr_expand.proofs.hide_sets.HideSets.has.Given as goal
 

@@ -1,6 +1,6 @@
 use Rattle.std.proofs.Common.{◌≡◌, ◌++◌, take}
 use Rattle.std.specs.Prelude.{flat_map}
-use Rattle.cr_expand.specs.Tokens.{takes}
+use Rattle.cr_macros.specs.Tokens.{takes}
 use Rattle.cr_expand.specs.HideSets.{Sets}
 use Rattle.cr_expand.specs.Held.{noted, watch_of, all_held}
 use Rattle.cr_expand.proofs.notes.Notes.take_all.Given as goal

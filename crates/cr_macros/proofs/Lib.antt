@@ -1,0 +1,4 @@
+pub mod Work
+pub mod Equation
+mod Rows
+pub mod Pieces
