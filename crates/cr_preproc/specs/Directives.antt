@@ -41,8 +41,8 @@ begins_with_quote [] = false
 begins_with_quote (b ∷ bs) = bytes_eq (b ∷ []) (codes "\"")
 
 -- a string without a prefix, with what stands between its quotes
-abbrev pub quoted : Token → Option Header
-quoted t = if begins_with_quote t.text then Some (record { angled = false; name = take (length t.text - 2) (drop 1 t.text) }) else None
+abbrev pub quoted_text : Text → Option Header
+quoted_text text = if begins_with_quote text then Some (record { angled = false; name = take (length text - 2) (drop 1 text) }) else None
 
 abbrev pub is_string_kind : PpKind → Bool
 is_string_kind Str = true
@@ -55,7 +55,7 @@ angled (Some name) = Some (record { angled = true; name = name })
 -- the header name that these tokens are: one string, or `<` to `>`
 abbrev pub header_name : List Token → Option Header
 header_name [] = None
-header_name (t ∷ []) = if is_string_kind t.kind then quoted t else None
+header_name (t ∷ []) = if is_string_kind t.kind then quoted_text t.text else None
 header_name (t ∷ u ∷ ts) = if is_mark (codes "<") t then angled (to_greater (u ∷ ts)) else None
 
 -- a file is opened unless it is one that isn't opened again

@@ -15,6 +15,11 @@ abbrev pub first_of : List OpenIf → Option OpenIf
 first_of [] = None
 first_of (c ∷ cs) = Some c
 
+-- with another in the place of the innermost
+abbrev pub with_first : OpenIf → List OpenIf → List OpenIf
+with_first innermost [] = []
+with_first innermost (c ∷ cs) = innermost ∷ cs
+
 -- with the innermost in another group
 abbrev pub with_group : Group → List OpenIf → List OpenIf
 with_group group [] = []
@@ -25,6 +30,3 @@ abbrev pub by_elif : Text → Place → List Token → List OpenIf → Elif → 
 by_elif path hash ts cs elif.Stray = ends (Ill cause.StrayElse hash)
 by_elif path hash ts cs elif.Asks = condition path hash ts >>> λ b. only (with_group (group_if b) cs)
 by_elif path hash ts cs elif.Skips = only (with_group Past cs)
-
-abbrev pub ByElif : Type 0
-ByElif = Unit {0}

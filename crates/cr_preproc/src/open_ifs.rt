@@ -1,11 +1,11 @@
 //! The conditionals of a file that are open (C11 6.10.1).
-ghost use Rattle.std.specs.Prelude.{◌≡◌, [], OnOk, OnErr, false, if◌then◌else◌};
+ghost use Rattle.std.specs.Prelude.{◌≡◌, [], List as ListOf, OnOk, OnErr, false, if◌then◌else◌};
 ghost use Rattle.cr_preproc.specs.Tasks.{State, only, ends, Ill};
 ghost use Rattle.cr_preproc.specs.Conditionals as spec;
-ghost use Rattle.cr_preproc.specs.OpenIfs.{with_group, by_elif, first_of};
+ghost use Rattle.cr_preproc.specs.OpenIfs.{with_first, with_group, by_elif, first_of};
 ghost use Rattle.cr_base.specs.declared.cause.IllCause.TheVariants as cause;
 ghost use Rattle.cr_base.specs.declared.token.Place.{Place as ThePlace};
-ghost use Rattle.cr_preproc.specs.OpenIfs.{ByElif};
+ghost use Rattle.cr_macros.specs.Tokens.{Text, Token};
 
 use cr_base::{OutOfMemory, Place};
 use std::alloc::Global;
@@ -105,11 +105,68 @@ impl OpenIfs {
         Ok(())
     }
 
+    // Whether the innermost one could go on to its `else`.
+    pub fn to_else(&mut self) -> bool
+        ensures goes_on { (hash : ThePlace) (s : State) → spec.else_in hash self.old s ≡ (if result then only self.new s else ends (Ill cause.StrayElse hash) s) }
+        ensures kept { result ≡ false → self.new ≡ self.old }
+    {
+        match self.first() {
+            Some(innermost) if !innermost.in_else => {
+                self.set_first(OpenIf {
+                    hash: innermost.hash,
+                    group: group_of_else(innermost.group),
+                    in_else: true,
+                });
+                true
+            }
+            _ => false,
+        }
+    }
+
     // Whether the innermost one could be closed.
     pub fn endif(&mut self) -> bool
         ensures closed { (hash : ThePlace) (s : State) → spec.endif hash self.old s ≡ (if result then only self.new s else ends (Ill cause.StrayElse hash) s) }
         ensures kept { result ≡ false → self.new ≡ self.old }
     {
         self.open.pop().is_some()
+    }
+
+    // Puts another in the place of the innermost one, if there is one.
+    fn set_first(&mut self, innermost: OpenIf)
+        ensures { self.new ≡ with_first innermost self.old }
+    {
+        if self.open.pop().is_some() {
+            match self.open.push(innermost) {
+                Ok(()) => {}
+                Err(_) => unreachable!(),
+            }
+        }
+    }
+
+    // Puts the innermost one, if there is one, into another group.
+    pub fn set_group(&mut self, group: Group)
+        ensures { self.new ≡ with_group group self.old }
+    {
+        if let Some(innermost) = self.first() {
+            self.set_first(OpenIf {
+                hash: innermost.hash,
+                group,
+                in_else: innermost.in_else,
+            });
+        }
+    }
+
+    // What an `elif` asks for.
+    pub fn elif(&self) -> Elif
+        ensures { (path : Text) (hash : ThePlace) (ts : ListOf Token) (s : State) → spec.elif path hash ts self.now s ≡ by_elif path hash ts self.now result s }
+    {
+        match self.first() {
+            None => Elif::Stray,
+            Some(innermost) if innermost.in_else => Elif::Stray,
+            Some(innermost) => match innermost.group {
+                Group::Before => Elif::Asks,
+                Group::Taken | Group::Past => Elif::Skips,
+            },
+        }
     }
 }
