@@ -1,5 +1,6 @@
 -- Directives that aren't conditional (C11 6.10.2 to 6.10.7).
 use Rattle.std.specs.Prelude.{◌-◌, Bool, true, false, ◌&&◌, ◌||◌, if◌then◌else◌, List, [], ◌∷◌, ◌++◌, flat_map, length, take, drop, bytes_eq, codes, Option, Some, None, is_some}
+use Rattle.std.specs.Option.{option_map}
 use Rattle.cr_base.specs.declared.token.PpKind.{PpKind}
 use Rattle.cr_base.specs.declared.token.PpKind.TheVariants.{Str}
 use Rattle.cr_base.specs.declared.token.Place.{Place}
@@ -28,13 +29,19 @@ pub record Header : Type 0 where
   pub angled : Bool
   pub name : Text
 
+-- a blank where white space is before the token
+abbrev pub blank_of : Token → Text
+blank_of t = if t.space then 32 ∷ [] else []
+
+-- a `>` ends the name where nothing is behind it
+abbrev pub if_last : List Token → Text → Option Text
+if_last [] name = Some name
+if_last (t ∷ ts) name = None
+
 -- the text up to a last `>`, with a blank where white space is
 abbrev pub to_greater : List Token → Option Text
 to_greater [] = None
-to_greater (t ∷ ts) =
-    let blank = if t.space then 32 ∷ [] else [] in
-    if is_mark (codes ">") t then elim ts [ [] ↦ Some blank | u ∷ us ↦ None ]
-    else elim (to_greater ts) [ None ↦ None | Some name ↦ Some (blank ++ t.text ++ name) ]
+to_greater (t ∷ ts) = if is_mark (codes ">") t then if_last ts (blank_of t) else option_map (λ name. (blank_of t ++ t.text) ++ name) (to_greater ts)
 
 abbrev pub begins_with_quote : Text → Bool
 begins_with_quote [] = false

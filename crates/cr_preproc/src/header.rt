@@ -1,7 +1,7 @@
 //! The header name of an include (C11 6.10.2, 6.4.7).
-ghost use Rattle.std.specs.Prelude.{◌≡◌, ◌++◌, [], IfOk, OnOk, Some, None, if◌then◌else◌};
+ghost use Rattle.std.specs.Prelude.{◌≡◌, ◌++◌, [], codes, IfOk, Some, None, if◌then◌else◌};
 ghost use Rattle.std.specs.Option.{option_map};
-ghost use Rattle.cr_macros.specs.Tokens.{tokens_of, token_of};
+ghost use Rattle.cr_macros.specs.Tokens.{tokens_of, token_of, is_mark};
 ghost use Rattle.cr_preproc.specs.Directives as spec;
 ghost use Rattle.cr_preproc.specs.Seen.{seen_header};
 
@@ -16,8 +16,23 @@ pub struct Header {
     pub name: Vec<u8>,
 }
 
-// Puts the text up to a last `>` behind what is there, with a blank where white space is; false where no
-// `>` is the last token and the only one.
+// Puts a token's text behind what is there, with a blank before it where white space is; of a `>`, which is
+// answered by true, the blank alone.
+fn put_token(names: &NameTable, t: PpTok, name: &mut Vec<u8>) -> Result<bool, OutOfMemory>
+    ensures test { IfOk result (λ ends. ends ≡ is_mark (codes ">") (token_of names.now [] t)) }
+    ensures put { IfOk result (λ ends. name.new.items ≡ name.old.items ++ (spec.blank_of (token_of names.now [] t) ++ (if ends then [] else (token_of names.now [] t).text))) }
+{
+    if t.space {
+        name.push(b' ')?;
+    }
+    if is_mark(names, b">", t) {
+        return Ok(true);
+    }
+    name.extend_from_slice(text(names, t.text))?;
+    Ok(false)
+}
+
+// Puts the text up to a last `>` behind what is there; false where no `>` is the last token and the only one.
 fn put_to_greater(
     names: &NameTable,
     tokens: &[PpTok],
@@ -26,14 +41,9 @@ fn put_to_greater(
     ensures { IfOk result (λ good. (if good then Some name.new.items else None) ≡ option_map (λ rest. name.old.items ++ rest) (spec.to_greater (tokens_of names.now tokens.now))) }
 {
     for i in 0..tokens.len() {
-        let t = tokens[i];
-        if t.space {
-            name.push(b' ')?;
-        }
-        if is_mark(names, b">", t) {
+        if put_token(names, tokens[i], name)? {
             return Ok(i + 1 == tokens.len());
         }
-        name.extend_from_slice(text(names, t.text))?;
     }
     Ok(false)
 }

@@ -115,11 +115,15 @@ sim_pragma r path ts h =
 
 -- header names
 
+last_shifted : (r : Renaming) (ts : List Token) (name : Text) → if_last (all_shifted r ts) name ≡ if_last ts name
+last_shifted r [] name = refl
+last_shifted r (t ∷ ts) name = refl
+
 greater_shifted : (r : Renaming) (ts : List Token) → to_greater (all_shifted r ts) ≡ to_greater ts
 greater_shifted r [] = refl
-greater_shifted r (t ∷ []) = refl
-greater_shifted r (t ∷ u ∷ ts) =
-    ap (λ o. cond (is_mark (codes ">") t) None (elim o [ None ↦ None | Some name ↦ Some (cond t.space (32 ∷ []) [] ++ t.text ++ name) ])) (greater_shifted r (u ∷ ts))
+greater_shifted r (t ∷ ts) =
+    ap (λ o. cond (is_mark (codes ">") t) o (option_map (λ name. (blank_of t ++ t.text) ++ name) (to_greater (all_shifted r ts)))) (last_shifted r ts (blank_of t))
+    ∙ ap (λ o. cond (is_mark (codes ">") t) (if_last ts (blank_of t)) (option_map (λ name. (blank_of t ++ t.text) ++ name) o)) (greater_shifted r ts)
 
 header_shifted : (r : Renaming) (ts : List Token) → header_name (all_shifted r ts) ≡ header_name ts
 header_shifted r [] = refl
