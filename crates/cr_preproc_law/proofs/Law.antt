@@ -13,7 +13,8 @@ use Rattle.cr_macros.specs.Substitution.{is_hash}
 use Rattle.cr_expand_law.specs.Renaming.{Renaming, renamed, all_renamed, KeepsExpansion}
 use Rattle.cr_expand_law.specs.Uses.{KeepsUses}
 use Rattle.cr_preproc.specs.Tasks.{Includes, End, Ill, Over, Event, Took, Opened, State, Goes, Task, Nothing, Done, ◌>>>◌, only, ends, tell, look, marks, reads}
-use Rattle.cr_preproc.specs.Lines.{Word, Line, Plain, Conditional, Directive, Empty, Wordless, place_in, by_word, behind_hash, word_of, line_of}
+use Rattle.cr_preproc.specs.declared.line.Word.{Word}
+use Rattle.cr_preproc.specs.Lines.{Line, Plain, Conditional, Directive, Empty, Wordless, place_in, by_word, behind_hash, word_of, line_of}
 use Rattle.cr_preproc.specs.Search.{World, words_path}
 use Rattle.cr_preproc.specs.Runs.{runs, inside}
 use Rattle.cr_preproc.specs.declared.open_ifs.OpenIf.{OpenIf}
