@@ -5,4 +5,5 @@ pub mod Definitions
 pub mod Conditions
 pub mod Directives
 pub mod Law
+pub mod Finals
 pub mod Edited
