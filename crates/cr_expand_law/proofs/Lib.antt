@@ -4,4 +4,5 @@ pub mod Items
 pub mod Calls
 pub mod Law
 pub mod Uses
+pub mod Origins
 mod Rows

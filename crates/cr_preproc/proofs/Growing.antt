@@ -13,7 +13,8 @@ use Rattle.cr_preproc.specs.Lines.{File, file_of, place_in, Line, Plain, Conditi
 use Rattle.cr_preproc.specs.Definition.{definition, undefined_name}
 use Rattle.cr_preproc.specs.Search.{World, Search, Finds, Misses, Lacks, search, unknown, looked_for, words_path}
 use Rattle.cr_preproc.specs.Runs.{runs, expands}
-use Rattle.cr_preproc.specs.Conditionals.{OpenIf, is_live}
+use Rattle.cr_preproc.specs.declared.open_ifs.OpenIf.{OpenIf}
+use Rattle.cr_preproc.specs.Conditionals.{is_live}
 use Rattle.cr_preproc.specs.Directives.{Opening, Header, all_marks, header_name, site_of, opens_found, looks, opens, includes_expanded, includes, defines, undefines, pragma, plain_directive, directive}
 use Rattle.cr_preproc.specs.Preprocessing.{Ahead, ahead, where_live, by_line, at_end, takes_line, does_lines, does_file, levels, does_first_file, does_unit, at_first, preprocessed}
 use Rattle.cr_preproc.specs.PreprocessingRun.{Agrees, IsLargerEnd, IsLarger, GoesOn}

@@ -1,2 +1,4 @@
+pub mod Headers
+pub mod Searches
 pub mod Growing
 mod Rows

@@ -13,20 +13,12 @@ use Rattle.cr_macros.specs.Tokens.{Text, Token, is_ident, is_mark}
 use Rattle.cr_macros.specs.Substitution.{made, only_if}
 use Rattle.cr_macros.specs.Expansion.{predefined_named}
 use Rattle.cr_preproc.specs.Tasks.{Ill, Event, State, Task, ◌>>>◌, only, ends, tell, look, marks, in_directive}
-use Rattle.cr_preproc.specs.Lines.{Word, If, Ifdef, Ifndef, Elif, Else, Endif}
+use Rattle.cr_preproc.specs.declared.line.Word.{Word}
+use Rattle.cr_preproc.specs.declared.line.Word.TheVariants.{If, Ifdef, Ifndef, Elif, Else, Endif}
+use Rattle.cr_preproc.specs.declared.open_ifs.Group.{Group}
+use Rattle.cr_preproc.specs.declared.open_ifs.Group.TheVariants.{Taken, Before, Past}
+use Rattle.cr_preproc.specs.declared.open_ifs.OpenIf.{OpenIf}
 use Rattle.cr_preproc.specs.Runs.{expands}
-
--- the group of an open conditional that is read: the one that is taken, one before it, or one behind it
-pub data Group : Type 0 where
-  Taken : Group
-  Before : Group
-  Past : Group
-
--- a conditional that isn't closed: the place of the `#` of its `if`, its group, and whether `else` was there
-pub record OpenIf : Type 0 where
-  pub hash : Place
-  pub group : Group
-  pub in_else : Bool
 
 abbrev pub is_taken : Group → Bool
 is_taken Taken = true

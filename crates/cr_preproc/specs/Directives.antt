@@ -1,5 +1,6 @@
 -- Directives that aren't conditional (C11 6.10.2 to 6.10.7).
 use Rattle.std.specs.Prelude.{◌-◌, Bool, true, false, ◌&&◌, ◌||◌, if◌then◌else◌, List, [], ◌∷◌, ◌++◌, flat_map, length, take, drop, bytes_eq, codes, Option, Some, None, is_some}
+use Rattle.std.specs.Option.{option_map}
 use Rattle.cr_base.specs.declared.token.PpKind.{PpKind}
 use Rattle.cr_base.specs.declared.token.PpKind.TheVariants.{Str}
 use Rattle.cr_base.specs.declared.token.Place.{Place}
@@ -28,21 +29,27 @@ pub record Header : Type 0 where
   pub angled : Bool
   pub name : Text
 
+-- a blank where white space is before the token
+abbrev pub blank_of : Token → Text
+blank_of t = if t.space then 32 ∷ [] else []
+
+-- a `>` ends the name where nothing is behind it
+abbrev pub if_last : List Token → Text → Option Text
+if_last [] name = Some name
+if_last (t ∷ ts) name = None
+
 -- the text up to a last `>`, with a blank where white space is
 abbrev pub to_greater : List Token → Option Text
 to_greater [] = None
-to_greater (t ∷ ts) =
-    let blank = if t.space then 32 ∷ [] else [] in
-    if is_mark (codes ">") t then elim ts [ [] ↦ Some blank | u ∷ us ↦ None ]
-    else elim (to_greater ts) [ None ↦ None | Some name ↦ Some (blank ++ t.text ++ name) ]
+to_greater (t ∷ ts) = if is_mark (codes ">") t then if_last ts (blank_of t) else option_map (λ name. (blank_of t ++ t.text) ++ name) (to_greater ts)
 
 abbrev pub begins_with_quote : Text → Bool
 begins_with_quote [] = false
 begins_with_quote (b ∷ bs) = bytes_eq (b ∷ []) (codes "\"")
 
 -- a string without a prefix, with what stands between its quotes
-abbrev pub quoted : Token → Option Header
-quoted t = if begins_with_quote t.text then Some (record { angled = false; name = take (length t.text - 2) (drop 1 t.text) }) else None
+abbrev pub quoted_text : Text → Option Header
+quoted_text text = if begins_with_quote text then Some (record { angled = false; name = take (length text - 2) (drop 1 text) }) else None
 
 abbrev pub is_string_kind : PpKind → Bool
 is_string_kind Str = true
@@ -55,7 +62,7 @@ angled (Some name) = Some (record { angled = true; name = name })
 -- the header name that these tokens are: one string, or `<` to `>`
 abbrev pub header_name : List Token → Option Header
 header_name [] = None
-header_name (t ∷ []) = if is_string_kind t.kind then quoted t else None
+header_name (t ∷ []) = if is_string_kind t.kind then quoted_text t.text else None
 header_name (t ∷ u ∷ ts) = if is_mark (codes "<") t then angled (to_greater (u ∷ ts)) else None
 
 -- a file is opened unless it is one that isn't opened again

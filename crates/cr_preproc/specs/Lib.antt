@@ -7,3 +7,5 @@ pub mod Conditionals
 pub mod Directives
 pub mod Preprocessing
 pub mod PreprocessingRun
+pub mod Seen
+pub mod OpenIfs

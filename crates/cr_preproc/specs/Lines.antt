@@ -7,6 +7,8 @@ use Rattle.cr_lex.specs.Lexing.{Fault, OpenComment, Trigraph, lexed}
 use Rattle.cr_lex.specs.Lexing as lexing
 use Rattle.cr_macros.specs.Tokens.{Text, Token, is_ident}
 use Rattle.cr_macros.specs.Substitution.{is_hash}
+use Rattle.cr_preproc.specs.declared.line.Word.{Word}
+use Rattle.cr_preproc.specs.declared.line.Word.TheVariants.{If, Ifdef, Ifndef, Elif, Else, Endif}
 use Rattle.cr_preproc.specs.Tasks.{End, Ill}
 
 abbrev pub place_in : ℕ → ℕ → Place
@@ -54,15 +56,7 @@ pub record File : Type 0 where
 abbrev pub file_of : ℕ → List ℕ → File
 file_of file bytes = record { lines = lines_of file (lexed bytes).tokens; fault = fault_of file (lexed bytes).fault }
 
--- the words of conditional directives (C11 6.10.1)
-pub data Word : Type 0 where
-  If : Word
-  Ifdef : Word
-  Ifndef : Word
-  Elif : Word
-  Else : Word
-  Endif : Word
-
+-- the word of a conditional directive (C11 6.10.1)
 abbrev pub word_of : Text → Option Word
 word_of text =
     if bytes_eq text (codes "if") then Some If

@@ -9,7 +9,8 @@ use Rattle.cr_preproc.specs.Tasks.{Includes, End, Ill, Over, Took, Opened, State
 use Rattle.cr_preproc.specs.Lines.{File, place_in, Line, Plain, Conditional, Directive, Empty, Wordless, line_of}
 use Rattle.cr_preproc.specs.Search.{World, words_path}
 use Rattle.cr_preproc.specs.Runs.{runs, inside}
-use Rattle.cr_preproc.specs.Conditionals.{OpenIf, is_live, conditional, is_word_live}
+use Rattle.cr_preproc.specs.declared.open_ifs.OpenIf.{OpenIf}
+use Rattle.cr_preproc.specs.Conditionals.{is_live, conditional, is_word_live}
 use Rattle.cr_preproc.specs.Directives.{Opening, opens, directive}
 
 -- behind a line: the open conditionals of the file, the innermost first, and the run so far

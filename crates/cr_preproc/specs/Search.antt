@@ -29,6 +29,11 @@ abbrev pub search : (Text → Finding) → List Text → Search
 search find [] = Misses
 search find (path ∷ paths) = elim (find path) [ Present n bytes ↦ Finds path n bytes | Absent ↦ search find paths | Unknown ↦ Lacks (path ∷ unknown find paths) ]
 
+-- how a search goes on behind some paths of which nothing is known
+abbrev pub lacks : List Text → Search → Search
+lacks [] found = found
+lacks (path ∷ paths) found = Lacks (path ∷ paths)
+
 -- those up to the first that is there, those beside all files aside
 abbrev pub looked_for : (Text → Finding) → List Text → List Text
 looked_for find [] = []

@@ -3,6 +3,11 @@
 
 ghost use Rattle.cr_preproc.specs.PreprocessingRun.{GoesOn};
 
+mod header;
+mod line;
+mod open_ifs;
+mod search;
+
 /// Where more files are known, a unit that wanted no file is preprocessed as before, and one that wanted
 /// files does the same first. It does nothing: its contract is the law.
 pub fn preprocessing_goes_on()

@@ -16,7 +16,7 @@ use Rattle.cr_preproc.specs.Tasks.{Ill, Event, Defined, State, Goes, Task, Nothi
 use Rattle.cr_preproc.specs.Definition.{is_free_name, Definition, definition, undefined_name}
 use Rattle.cr_preproc.specs.Search.{World}
 use Rattle.cr_preproc.specs.Runs.{expands}
-use Rattle.cr_preproc.specs.Directives.{Opening, Header, all_marks, to_greater, angled, header_name, site_of, includes_header, includes_expanded, includes, with_macro, parameter_marks, definition_marks, defines, undefines, begins_with_once, pragma, plain_directive, directive}
+use Rattle.cr_preproc.specs.Directives.{Opening, Header, all_marks, blank_of, if_last, to_greater, angled, header_name, site_of, includes_header, includes_expanded, includes, with_macro, parameter_marks, definition_marks, defines, undefines, begins_with_once, pragma, plain_directive, directive}
 use Rattle.cr_preproc_law.specs.Renaming.{renamed_state, IsSame, AreSame}
 use Rattle.cr_preproc_law.proofs.Tokens.{renamed_events, all_shifted, fine_left, fine_right, same_token, all_same, of_directive, of_param, marked_same, all_marked_same, marks_renamed, both_renamed, all_marks_renamed}
 use Rattle.cr_preproc_law.proofs.Following.{Good, Sim, sim_then, sim_only, sim_ends, sim_told, sim_tell, sim_to, sim_if, sim_in_directive, same, sim_expands}
@@ -115,11 +115,15 @@ sim_pragma r path ts h =
 
 -- header names
 
+last_shifted : (r : Renaming) (ts : List Token) (name : Text) → if_last (all_shifted r ts) name ≡ if_last ts name
+last_shifted r [] name = refl
+last_shifted r (t ∷ ts) name = refl
+
 greater_shifted : (r : Renaming) (ts : List Token) → to_greater (all_shifted r ts) ≡ to_greater ts
 greater_shifted r [] = refl
-greater_shifted r (t ∷ []) = refl
-greater_shifted r (t ∷ u ∷ ts) =
-    ap (λ o. cond (is_mark (codes ">") t) None (elim o [ None ↦ None | Some name ↦ Some (cond t.space (32 ∷ []) [] ++ t.text ++ name) ])) (greater_shifted r (u ∷ ts))
+greater_shifted r (t ∷ ts) =
+    ap (λ o. cond (is_mark (codes ">") t) o (option_map (λ name. (blank_of t ++ t.text) ++ name) (to_greater (all_shifted r ts)))) (last_shifted r ts (blank_of t))
+    ∙ ap (λ o. cond (is_mark (codes ">") t) (if_last ts (blank_of t)) (option_map (λ name. (blank_of t ++ t.text) ++ name) o)) (greater_shifted r ts)
 
 header_shifted : (r : Renaming) (ts : List Token) → header_name (all_shifted r ts) ≡ header_name ts
 header_shifted r [] = refl

@@ -1,14 +1,12 @@
 -- The lines of an edited file are the old ones, renamed.
-use Rattle.std.proofs.Common.{◌≡◌, ℕ, zero, suc, ◌-◌, ◌<◌, ◌≤◌, Bool, true, false, cond, List, [], ◌∷◌, length, map, take, refl, ap, sym, ◌∙◌, subst, Some, None, Option, arith}
-use Rattle.std.specs.Prelude.{bytes_eq, ◌==◌, ◌&&◌, ◌||◌, codes, option_map}
+use Rattle.std.proofs.Common.{◌≡◌, ℕ, zero, suc, ◌≤◌, Bool, true, false, cond, List, [], ◌∷◌, length, map, refl, ap, sym, ◌∙◌, subst, Some, None, Option, arith}
+use Rattle.std.specs.Prelude.{bytes_eq, ◌==◌, ◌&&◌, ◌||◌, option_map}
 use Rattle.std.specs.List.{AllByRecursion, Contains}
 use Rattle.std.proofs.lemmas.Bool.Decides.{nat_tests}
 use Rattle.std.proofs.lemmas.Slice.Eq.{bytes_eq-Decides}
 use Rattle.cr_base.specs.Names.{is_identifier}
 use Rattle.cr_base.specs.Substitution.{substituted, shifted as shifted_offset}
 use Rattle.cr_base.specs.declared.token.PpKind.TheVariants.{Ident}
-use Rattle.cr_lex.specs.Spellings.{Part, Piece, Blank, Comment, LineEnd, part_of}
-use Rattle.cr_lex.specs.Joins.{Cell, text_of, begins, cells}
 use Rattle.cr_lex.specs.Lexing.{Lexed, Fault, OpenComment, Trigraph, Before, at_start, or_shorter, longest, longest_part, by_part, piece, token, with_token, unless_trigraph, first_trigraph, stop, cut, lexed}
 use Rattle.cr_lex.specs.Lexing as lexing
 use Rattle.cr_lex.specs.Order.{AreInOrder, StandsInOrder}
@@ -18,50 +16,14 @@ use Rattle.cr_snapshot.specs.Files.{Finding, Present, Absent, Unknown}
 use Rattle.cr_macros.specs.Tokens.{Text, Token, is_ident}
 use Rattle.cr_expand_law.specs.Renaming.{Renaming, renamed, all_renamed, KeepsExpansion}
 use Rattle.cr_expand_law.specs.Uses.{KeepsUses}
-use Rattle.cr_preproc.specs.Lines.{file_of, token_in, begins_line, into_line, lines_of, fault_of}
+use Rattle.cr_preproc.specs.Lines.{file_of, place_in, token_in, begins_line, into_line, lines_of, fault_of}
 use Rattle.cr_preproc_law.specs.Renaming.{Places, renaming_at, edited, edited_world, renamed_end, renamed_file, MayBeEdited, MayEdit, KeepsPreprocessing}
 use Rattle.cr_preproc_law.proofs.Searched.{IsRenamedFinding}
+use Rattle.cr_preproc.specs.Search.{World}
+use Rattle.cr_preproc_law.specs.Finals.{FinalsPass, IsFinalPlace, IsNumbered}
+use Rattle.cr_preproc_law.proofs.Apart.{finals_are_apart}
 use Rattle.cr_preproc_law.proofs.Law.{keeps}
-
--- no token is empty
-
-abbrev HasText : lexing.Token → Type 0
-HasText t = 0 < length t.text
-
-longest_is_some : (n : ℕ) (text : List ℕ) → 0 < (longest n text).0
-unfolding longest
-longest_is_some zero text = omega arith
-longest_is_some (suc n) text = go (part_of (take (suc n) text)) (longest_is_some n text) where
-  go : (o : Option Part) → 0 < (longest n text).0 → 0 < (or_shorter (suc n) (longest n text) o).0
-  go None h = h
-  go (Some part) h = omega arith
-
-have_text_if : (b : Bool) (l m : Lexed) → AllByRecursion HasText l.tokens → AllByRecursion HasText m.tokens → AllByRecursion HasText (cond b l m).tokens
-have_text_if true l m h k = h
-have_text_if false l m h k = k
-
-have_text_unless : (l : Lexed) (o : Option ℕ) → AllByRecursion HasText l.tokens → AllByRecursion HasText (unless_trigraph l o).tokens
-have_text_unless l None h = h
-have_text_unless l (Some at) h = tt
-
-have_text : (cs : List Cell) (before : Before) (skip : ℕ) → AllByRecursion HasText (cut before skip cs).tokens
-unfolding cut
-have_text [] before skip = tt
-have_text (c ∷ cs) before (suc skip) = have_text cs before skip
-have_text (c ∷ cs) before zero = go (longest_part (text_of (c ∷ cs))) (longest_is_some (length (text_of (c ∷ cs))) (text_of (c ∷ cs))) (have_text cs) where
-  go : (p : ℕ × Part) → 0 < p.0 → ((b : Before) (n : ℕ) → AllByRecursion HasText (cut b n cs).tokens) → AllByRecursion HasText (by_part before c cs (λ after n. cut after n cs) p).tokens
-  go (n, Blank) h k = k (record before { space = true }) (n - 1)
-  go (n, Comment) h k = k (record before { space = true }) (n - 1)
-  go (n, LineEnd) h k = k (record { first = true; space = true }) (n - 1)
-  go (zero, Piece kind) h k = absurd (omega arith)
-  go (suc n, Piece kind) h k =
-      have_text_if (begins (codes "/*") (text_of (c ∷ cs))) (stop (OpenComment c.at)) (unless_trigraph (with_token (token before kind c (c ∷ take n cs)) (cut (record { first = false; space = false }) (suc n - 1) cs)) (first_trigraph (c ∷ take n cs))) tt
-      (have_text_unless (with_token (token before kind c (c ∷ take n cs)) (cut (record { first = false; space = false }) (suc n - 1) cs)) (first_trigraph (c ∷ take n cs))
-      ((let w : 0 < suc (length (text_of (take n cs))) = omega arith in w), k (record { first = false; space = false }) (suc n - 1)))
-
-tokens_have_text : (bytes : List ℕ) → AllByRecursion HasText (lexed bytes).tokens
-unfolding lexed
-tokens_have_text bytes = have_text (cells zero 0 1 bytes) at_start zero
+use Rattle.cr_preproc_law.proofs.Texts.{HasText, tokens_have_text}
 
 -- one token stands at a place
 
@@ -138,7 +100,7 @@ module _ (places : Places) (old new : Text) (n : ℕ) where
   fault_renamed (Some (OpenComment at)) = refl
   fault_renamed (Some (Trigraph at)) = refl
 
-  module _ (keeps_lexing : KeepsLexing) (in_order : StandsInOrder) (old_name : is_identifier old ≡ true) (new_name : is_identifier new ≡ true) (bytes : List ℕ) (may : MayBeEdited places old new n bytes) where
+  module _ (keeps_lexing : KeepsLexing) (in_order : StandsInOrder) (old_name : is_identifier old ≡ true) (new_name : is_identifier new ≡ true) (w : World) (bytes : List ℕ) (may : MayBeEdited w places old new n bytes) where
     are_old : AllByRecursion IsOld (lexed bytes).tokens
     are_old = all_of (lexed bytes).tokens (λ t c h.
         let place = among (IsPlace bytes old new) (places n) t.at h may.spelled in
@@ -151,12 +113,18 @@ module _ (places : Places) (old new : Text) (n : ℕ) where
         ∙ ap (λ x. record { lines = x; fault = fault_of n (lexes.renamed (places n) old new (lexed bytes)).fault }) (lines_renamed (lexed bytes).tokens are_old)
         ∙ ap (λ x. record { lines = map (all_renamed r) (lines_of n (lexed bytes).tokens); fault = x }) (fault_renamed (lexed bytes).fault)
 
-found : (places : Places) (old new : Text) → KeepsLexing → StandsInOrder → is_identifier old ≡ true → is_identifier new ≡ true → (f : Finding) → MayEdit places old new f → IsRenamedFinding (renaming_at places old new) f (edited places old new f)
-found places old new keeps_lexing in_order o m (Present n bytes) may = (substituted (places n) (length old) new bytes, refl, file_edited places old new n keeps_lexing in_order o m bytes may, may.apart)
-found places old new keeps_lexing in_order o m Absent may = refl
-found places old new keeps_lexing in_order o m Unknown may = refl
+module _ (keeps_lexing : KeepsLexing) (in_order : StandsInOrder) (finals_pass : FinalsPass) (places : Places) (old new : Text) (old_name : is_identifier old ≡ true) (new_name : is_identifier new ≡ true) (w : World) (numbered : IsNumbered w) where
+  found : (path : Text) (f : Finding) → w.find path ≡ f → MayEdit w places old new f → IsRenamedFinding (renaming_at places old new) f (edited places old new f)
+  found path (Present n bytes) e may = (
+    substituted (places n) (length old) new bytes,
+    refl,
+    file_edited places old new n keeps_lexing in_order old_name new_name w bytes may,
+    finals_are_apart finals_pass in_order w numbered places old new path n bytes e (λ k h. among (λ at. IsFinalPlace w (place_in n at)) (places n) k h may.final),
+  )
+  found path Absent e may = refl
+  found path Unknown e may = refl
 
-pub keeps_preprocessing : KeepsLexing → StandsInOrder → KeepsExpansion → KeepsUses → KeepsPreprocessing
-keeps_preprocessing keeps_lexing in_order keeps_expansion keeps_uses places old new w u s events old_name new_name not_reserved may e fine =
+pub keeps_preprocessing : KeepsLexing → StandsInOrder → KeepsExpansion → KeepsUses → FinalsPass → KeepsPreprocessing
+keeps_preprocessing keeps_lexing in_order keeps_expansion keeps_uses finals_pass places old new w u s events old_name new_name not_reserved numbered may e fine =
     keeps (renaming_at places old new) not_reserved keeps_expansion keeps_uses w (edited_world places old new w) u
-    (λ path. found places old new keeps_lexing in_order old_name new_name (w.find path) (may path)) s events e fine
+    (λ path. found keeps_lexing in_order finals_pass places old new old_name new_name w numbered path (w.find path) refl (may path)) s events e fine

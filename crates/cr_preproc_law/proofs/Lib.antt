@@ -5,4 +5,7 @@ pub mod Definitions
 pub mod Conditions
 pub mod Directives
 pub mod Law
+pub mod Texts
+pub mod Finals
+pub mod Apart
 pub mod Edited

@@ -10,9 +10,10 @@ use Rattle.cr_macros.specs.Tokens.{Text, Token, MacroText}
 use Rattle.cr_macros.specs.Substitution.{param}
 use Rattle.cr_expand_law.specs.Renaming.{Renaming, is_renamed, renamed, all_renamed, renamed_macro, renamed_event as renamed_telling, IsHarmless}
 use Rattle.cr_preproc.specs.Tasks.{End, Ill, Over, Needs, Event, Took, Opened, Looked, Defined, Told, Final, State, Goes, Done}
-use Rattle.cr_preproc.specs.Lines.{File, file_of, Line, Plain, Conditional, Directive, Empty, Wordless, line_of}
+use Rattle.cr_preproc.specs.Lines.{File, place_in, Line, Plain, Conditional, Directive, Empty, Wordless, line_of}
 use Rattle.cr_preproc.specs.Search.{World}
 use Rattle.cr_preproc.specs.Preprocessing.{preprocessed}
+use Rattle.cr_preproc_law.specs.Finals.{IsFinalPlace, IsNumbered}
 
 -- offsets of places, by the number of the file
 abbrev pub Places : Type 0
@@ -91,16 +92,16 @@ abbrev pub AreApart : Renaming → File → Type 0
 AreApart r f = AllByRecursion (IsApart r) f.lines
 
 -- A file may be edited: the places rise, at each is an identifier spelled old that the new name can take the place of, and
--- none is on a directive's line but in a definition.
-pub record MayBeEdited (places : Places) (old new : Text) (n : ℕ) (bytes : List ℕ) : Type 0 where
+-- it is a final token of some unit.
+pub record MayBeEdited (w : World) (places : Places) (old new : Text) (n : ℕ) (bytes : List ℕ) : Type 0 where
   pub rise : Rise 0 (places n) (length old) (length bytes)
   pub spelled : AllByRecursion (IsPlace bytes old new) (places n)
-  pub apart : AreApart (renaming_at places old new) (file_of n bytes)
+  pub final : AllByRecursion (λ at. IsFinalPlace w (place_in n at)) (places n)
 
-abbrev pub MayEdit : Places → Text → Text → Finding → Type 0
-MayEdit places old new (Present n bytes) = MayBeEdited places old new n bytes
-MayEdit places old new Absent = Prim.Unit {0}
-MayEdit places old new Unknown = Prim.Unit {0}
+abbrev pub MayEdit : World → Places → Text → Text → Finding → Type 0
+MayEdit w places old new (Present n bytes) = MayBeEdited w places old new n bytes
+MayEdit w places old new Absent = Prim.Unit {0}
+MayEdit w places old new Unknown = Prim.Unit {0}
 
 -- Where a unit is preprocessed whole and nothing that happens does harm, the same happens in the edited files: the same
 -- lines are live, the same files are opened and looked for, macros are used and tokens given as before, but for the new
@@ -109,7 +110,7 @@ abbrev pub KeepsPreprocessing : Type 0
 KeepsPreprocessing =
     (places : Places) (old new : Text) (w : World) (u : Unit) (s : State) (events : List Event)
     → is_identifier old ≡ true → is_identifier new ≡ true → is_reserved new ≡ false
-    → ((path : Text) → MayEdit places old new (w.find path))
+    → IsNumbered w → ((path : Text) → MayEdit w places old new (w.find path))
     → preprocessed w u ≡ Goes Done s events → AllByRecursion (IsFine (renaming_at places old new)) events
     → preprocessed (edited_world places old new w) u
     ≡ Goes Done (renamed_state (renaming_at places old new) s) (map (renamed_event (renaming_at places old new)) events)

@@ -1,13 +1,23 @@
-//! The law that a renaming keeps the preprocessing of a translation unit.
+//! The laws that a renaming keeps the preprocessing of a translation unit.
 #![tactic(auto)]
 
 ghost use Rattle.cr_preproc_law.specs.Renaming.{KeepsPreprocessing};
+ghost use Rattle.cr_preproc_law.specs.Finals.{FinalsPass};
 
-use cr_expand_law::{renaming_keeps_each_use, renaming_keeps_expansion};
+use cr_expand_law::{expansion_keeps_origins, renaming_keeps_each_use, renaming_keeps_expansion};
 use cr_lex::{renaming_keeps_lexing, tokens_stand_in_order};
 
-/// Where a name is replaced in files at places of identifiers that are spelled so, none of them on a
-/// directive's line but in a definition, a unit that was preprocessed whole is preprocessed as before
+/// The final tokens of a unit come from text lines and from definitions of its files, or are made.
+///
+/// It does nothing: its contract is the law.
+pub fn final_tokens_come_from_text()
+    ensures { FinalsPass }
+{
+    expansion_keeps_origins();
+}
+
+/// Where a name is replaced in files at places of identifiers that are spelled so, each of them a
+/// final token of some unit, a unit that was preprocessed whole is preprocessed as before
 /// (C11 5.1.1.2, phases 1 to 4): the same lines are live, each `#if` has the value that it had, the
 /// same files are opened and looked for, and the same tokens are given, but for the new name and the
 /// places. The new name is an identifier that is not reserved, names no macro and captures no
@@ -21,4 +31,5 @@ pub fn renaming_keeps_preprocessing()
     tokens_stand_in_order();
     renaming_keeps_expansion();
     renaming_keeps_each_use();
+    final_tokens_come_from_text();
 }

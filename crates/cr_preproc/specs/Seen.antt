@@ -1,0 +1,27 @@
+-- Values of the code as those of the definitions.
+use Rattle.std.specs.Prelude.{List, []}
+use Rattle.cr_macros.specs.Tokens.{Text, token_of, tokens_of}
+use Rattle.cr_preproc.specs.declared.line.Line.{Line}
+use Rattle.cr_preproc.specs.declared.line.Line.TheVariants as line
+use Rattle.cr_preproc.specs.declared.header.Header.{Header}
+use Rattle.cr_preproc.specs.declared.search.Search.{Search}
+use Rattle.cr_preproc.specs.declared.search.Search.TheVariants as search
+use Rattle.cr_preproc.specs.Lines as spec
+use Rattle.cr_preproc.specs.Directives as directives
+use Rattle.cr_preproc.specs.Search as searching
+
+-- a line, where the table of names has these texts
+abbrev pub seen_line : List Text → Line → spec.Line
+seen_line names line.Plain = spec.Plain
+seen_line names (line.Conditional hash t word rest) = spec.Conditional hash (token_of names [] t) word (tokens_of names rest.now)
+seen_line names (line.Directive hash t rest) = spec.Directive hash (token_of names [] t) (tokens_of names rest.now)
+seen_line names line.Empty = spec.Empty
+seen_line names (line.Wordless hash) = spec.Wordless hash
+
+abbrev pub seen_header : Header → directives.Header
+seen_header h = record { angled = h.angled; name = h.name.items }
+
+abbrev pub seen_search : Search → searching.Search
+seen_search (search.Finds path n bytes) = searching.Finds path n.0 bytes.now
+seen_search search.Misses = searching.Misses
+seen_search (search.Lacks paths) = searching.Lacks paths.items
