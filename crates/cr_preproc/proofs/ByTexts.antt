@@ -22,7 +22,7 @@ use Rattle.cr_preproc.specs.Definition.{Definition}
 use Rattle.cr_preproc.specs.Seen.{IsNamed, AreNamed, IsSameDefinition}
 
 -- two names of a table have one text only where they are one
-same_name : (names : List Text) (a b : Name) → IsDistinct names → a.0 < length names → b.0 < length names → bytes_eq (text_of names a) (text_of names b) ≡ (a.0 == b.0)
+pub same_name : (names : List Text) (a b : Name) → IsDistinct names → a.0 < length names → b.0 < length names → bytes_eq (text_of names a) (text_of names b) ≡ (a.0 == b.0)
 same_name names a b d h k = go (bytes_eq (text_of names a) (text_of names b)) refl (a.0 == b.0) refl where
   go : (x : Bool) → bytes_eq (text_of names a) (text_of names b) ≡ x → (y : Bool) → (a.0 == b.0) ≡ y → bytes_eq (text_of names a) (text_of names b) ≡ (a.0 == b.0)
   go true e true f = e ∙ sym f
@@ -60,7 +60,7 @@ take_named names zero ts h = tt
 take_named names (suc n) [] h = tt
 take_named names (suc n) (t ∷ ts) h = (h.0, take_named names n ts h.1)
 
-drop_named : (names : List Text) (n : ℕ) (ts : List PpTok) → AreNamed names ts → AreNamed names (drop n ts)
+pub drop_named : (names : List Text) (n : ℕ) (ts : List PpTok) → AreNamed names ts → AreNamed names (drop n ts)
 drop_named names zero ts h = h
 drop_named names (suc n) [] h = tt
 drop_named names (suc n) (t ∷ ts) h = drop_named names n ts h.1

@@ -1,5 +1,7 @@
 pub mod Headers
 pub mod Searches
 pub mod ByTexts
+pub mod MacroNames
+pub mod Answered
 pub mod Growing
 mod Rows

@@ -1,15 +1,18 @@
 -- Values of the code as those of the definitions.
-use Rattle.std.specs.Prelude.{◌≡◌, ◌<◌, List, [], length, Option, Some, None}
+use Rattle.std.specs.Prelude.{◌≡◌, ◌<◌, ℕ, Bool, List, [], ◌∷◌, length, map, codes, Option, Some, None}
 use Rattle.std.specs.List.{AllByRecursion}
 use Rattle.cr_base.specs.declared.token.PpTok.{PpTok}
 use Rattle.cr_macros.specs.declared.macros.Macro.{Macro}
-use Rattle.cr_macros.specs.MacroTables.{macro_text}
-use Rattle.cr_macros.specs.Tokens.{Text, token_of, tokens_of}
+use Rattle.cr_macros.specs.MacroTables.{Macros, macro_text, table_of}
+use Rattle.cr_macros.specs.Tokens.{Text, Token, MacroText, token_of, tokens_of}
 use Rattle.cr_preproc.specs.declared.line.Line.{Line}
 use Rattle.cr_preproc.specs.declared.line.Line.TheVariants as line
 use Rattle.cr_preproc.specs.declared.header.Header.{Header}
 use Rattle.cr_preproc.specs.declared.search.Search.{Search}
 use Rattle.cr_preproc.specs.declared.search.Search.TheVariants as search
+use Rattle.cr_base.specs.declared.token.Name.{Name}
+use Rattle.cr_macros.specs.Definition.{text_of}
+use Rattle.cr_preproc.specs.Conditionals.{is_macro_of, piece_at, pieces, answered}
 use Rattle.cr_preproc.specs.Definition.{Definition}
 use Rattle.cr_preproc.specs.Lines as spec
 use Rattle.cr_preproc.specs.Directives as directives
@@ -44,3 +47,30 @@ IsSameDefinition names None None = Unit {0}
 IsSameDefinition names (Some m) (Some d) = macro_text names m ≡ d.macro
 IsSameDefinition names None (Some d) = ⊥
 IsSameDefinition names (Some m) None = ⊥
+
+-- the macros by the texts of their names
+abbrev pub macros_of : List Text → Macros → Text → Option MacroText
+macros_of names macros = (table_of names macros []).macro
+
+-- the table of names has the names of the macros
+abbrev pub AreMacrosNamed : List Text → Macros → Type 0
+AreMacrosNamed names = AllByRecursion (λ entry. entry.0.0 < length names)
+
+abbrev pub seen_asked : List Text → Option (PpTok × ℕ) → Option (Token × ℕ)
+seen_asked names None = None
+seen_asked names (Some p) = Some (token_of names [] p.0, p.1)
+
+-- the names of `0` and `1`
+abbrev pub AreDigits : List Text → List Name → Type 0
+AreDigits names digits = map (text_of names) digits ≡ codes "0" ∷ codes "1" ∷ []
+
+abbrev pub seen_answer : List Text → PpTok × ℕ → Token × ℕ
+seen_answer names p = (token_of names [] p.0, p.1)
+
+-- the piece that begins with a token, answered, and how many more tokens it takes
+abbrev pub answer_at : (Token → Bool) → Token → List Token → Token × ℕ
+answer_at test t ts = (answered test (piece_at t ts).0, (piece_at t ts).1)
+
+-- a list with `defined` answered
+abbrev pub answered_list : (Text → Option MacroText) → List Token → List Token
+answered_list macros ts = map (answered (is_macro_of macros)) (pieces 0 ts)

@@ -3,6 +3,7 @@
 
 ghost use Rattle.cr_preproc.specs.PreprocessingRun.{GoesOn};
 
+mod condition;
 mod header;
 mod line;
 mod open_ifs;
