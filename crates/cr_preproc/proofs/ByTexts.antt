@@ -303,14 +303,51 @@ module _ (names : List Text) (distinct : IsDistinct names) where
       ∙ ap (λ b. (number.has_pastes_inside names m.body && number.has_good_hashes names m.variadic m.body m.params) && (m.variadic || not b)) (rest_same m.body)
       ∙ and_assoc (number.has_pastes_inside names m.body) (number.has_good_hashes names m.variadic m.body m.params) (m.variadic || not (list_any (number.is_rest names) m.body))
 
+  -- the name
+
+  abbrev HasName : Name → Option Macro → Type 0
+  HasName name None = Unit {0}
+  HasName name (Some m) = m.name ≡ name
+
+  name_if : (name : Name) (b : Bool) (x y : Option Macro) → HasName name x → HasName name y → HasName name (cond b x y)
+  name_if name true x y h k = h
+  name_if name false x y h k = k
+
+  function_name : (name : Name) (body : List PpTok) (p : number.Params) → HasName name (number.function_like name body p)
+  function_name name body None = tt
+  function_name name body (Some (ps, v)) = refl
+
+  params_name : (name : Name) (rest : List PpTok) (o : Option ℕ) → HasName name (number.with_params names name rest o)
+  params_name name rest None = tt
+  params_name name rest (Some n) = function_name name (drop (n + 1) rest) (number.params_of names (take n rest))
+
+  macro_name : (name : Name) (rest : List PpTok) → HasName name (number.macro_of names name rest)
+  macro_name name [] = refl
+  macro_name name (t ∷ rest) =
+      name_if name (number.is_mark names (codes "(") t && not t.space) (number.with_params names name rest (position (number.is_mark names (codes ")")) rest)) (Some (number.object_like name (t ∷ rest)))
+      (params_name name rest (position (number.is_mark names (codes ")")) rest)) refl
+
+  good_name : (name : Name) (o : Option Macro) → HasName name o → HasName name (number.if_good names o)
+  good_name name None h = tt
+  good_name name (Some m) h = name_if name (number.is_good names m) (Some m) None h tt
+
+  definition_name : (t : PpTok) (rest : List PpTok) → HasName t.text (number.definition_of names (t ∷ rest))
+  definition_name t rest = name_if t.text (number.is_macro_name names t) (number.if_good names (number.macro_of names t.text rest)) None (good_name t.text (number.macro_of names t.text rest) (macro_name t.text rest)) tt
+
+  -- the name of a definition is in the table
+  pub name_known : (ts : List PpTok) (m : Macro) → AreNamed names ts → number.definition_of names ts ≡ Some m → m.name.0 < length names
+  name_known [] m h e = cc
+  name_known (t ∷ rest) m h e =
+      let same : m.name ≡ t.text = subst (HasName t.text) e (definition_name t rest) in subst (λ n. n.0 < length names) (sym same) h.0
+
   -- the whole
 
-  if_good_same : (t : PpTok) (rest : List PpTok) (o : Option Macro) → SomeKnown o → IsSameDefinition names (number.if_good names o) (text.if_good (seen t) (tokens_of names rest) (seen_macro o))
-  if_good_same t rest None h = tt
-  if_good_same t rest (Some m) h =
+  if_good_same : (t : PpTok) (rest : List PpTok) (o : Option Macro) → SomeKnown o → HasName t.text o → IsSameDefinition names (number.if_good names o) (text.if_good (seen t) (tokens_of names rest) (seen_macro o))
+  if_good_same t rest None h n = tt
+  if_good_same t rest (Some m) h n =
       subst (λ b. IsSameDefinition names (cond (number.is_good names m) (Some m) None) (cond b (Some (record { name = seen t; parameters = text.parameters_of (tokens_of names rest); macro = macro_text names m })) None)) (sym (good_same m h.0 h.1)) (go (number.is_good names m)) where
         go : (b : Bool) → IsSameDefinition names (cond b (Some m) None) (cond b (Some (record { name = seen t; parameters = text.parameters_of (tokens_of names rest); macro = macro_text names m })) None)
-        go true = refl
+        go true = (ap (text_of names) n, refl)
         go false = tt
 
   pub by_texts : (ts : List PpTok) → AreNamed names ts → IsSameDefinition names (number.definition_of names ts) (text.definition (tokens_of names ts))
@@ -320,5 +357,5 @@ module _ (names : List Text) (distinct : IsDistinct names) where
       (sym (and_assoc (is_ident t.kind) (not (is_kept_word (text_of names t.text))) (not (number.is_rest names t))))
       (subst (λ o. IsSameDefinition names (number.definition_of names (t ∷ rest)) (cond (number.is_macro_name names t) (text.if_good (seen t) (tokens_of names rest) o) None)) (sym (macro_same t.text rest h.1)) (go (number.is_macro_name names t))) where
         go : (b : Bool) → IsSameDefinition names (cond b (number.if_good names (number.macro_of names t.text rest)) None) (cond b (text.if_good (seen t) (tokens_of names rest) (seen_macro (number.macro_of names t.text rest))) None)
-        go true = if_good_same t rest (number.macro_of names t.text rest) (macro_known t.text rest h.1)
+        go true = if_good_same t rest (number.macro_of names t.text rest) (macro_known t.text rest h.1) (macro_name t.text rest)
         go false = tt

@@ -1,5 +1,5 @@
 -- Values of the code as those of the definitions.
-use Rattle.std.specs.Prelude.{◌≡◌, ◌<◌, ℕ, Bool, List, [], ◌∷◌, length, map, codes, Option, Some, None}
+use Rattle.std.specs.Prelude.{◌≡◌, ◌<◌, ℕ, Bool, List, [], ◌∷◌, length, map, drop, codes, bytes_eq, if◌then◌else◌, Option, Some, None}
 use Rattle.std.specs.List.{AllByRecursion}
 use Rattle.cr_base.specs.declared.token.PpTok.{PpTok}
 use Rattle.cr_macros.specs.declared.macros.Macro.{Macro}
@@ -13,7 +13,11 @@ use Rattle.cr_preproc.specs.declared.search.Search.TheVariants as search
 use Rattle.cr_base.specs.declared.token.Name.{Name}
 use Rattle.cr_macros.specs.Definition.{text_of}
 use Rattle.cr_preproc.specs.Conditionals.{is_macro_of, piece_at, pieces, answered}
-use Rattle.cr_preproc.specs.Definition.{Definition}
+use Rattle.cr_base.specs.declared.token.Origin.TheVariants.{At}
+use Rattle.cr_macros.specs.Definition.{starts_at}
+use Rattle.cr_macros.specs.declared.fault.ExpandFault.{ExpandFault}
+use Rattle.cr_macros.specs.declared.fault.ExpandFault.TheVariants as fault
+use Rattle.cr_preproc.specs.Definition.{Definition, definition}
 use Rattle.cr_preproc.specs.Lines as spec
 use Rattle.cr_preproc.specs.Directives as directives
 use Rattle.cr_preproc.specs.Search as searching
@@ -41,10 +45,10 @@ IsNamed names t = t.text.0 < length names
 abbrev pub AreNamed : List Text → List PpTok → Type 0
 AreNamed names = AllByRecursion (IsNamed names)
 
--- the macro by numbers is that by texts, or there is none
+-- the macro by numbers has the name and the meaning of that by texts, or there is none
 abbrev pub IsSameDefinition : List Text → Option Macro → Option Definition → Type 0
 IsSameDefinition names None None = Unit {0}
-IsSameDefinition names (Some m) (Some d) = macro_text names m ≡ d.macro
+IsSameDefinition names (Some m) (Some d) = (text_of names m.name ≡ d.name.text) × (macro_text names m ≡ d.macro)
 IsSameDefinition names None (Some d) = ⊥
 IsSameDefinition names (Some m) None = ⊥
 
@@ -74,3 +78,20 @@ answer_at test t ts = (answered test (piece_at t ts).0, (piece_at t ts).1)
 -- a list with `defined` answered
 abbrev pub answered_list : (Text → Option MacroText) → List Token → List Token
 answered_list macros ts = map (answered (is_macro_of macros)) (pieces 0 ts)
+
+-- the macros are as they were, but that a name has this macro, or none
+abbrev pub SetsText : List Text → Macros → Text → Option MacroText → Macros → Type 0
+SetsText names old name m new = (other : Text) → macros_of names new other ≡ (if bytes_eq name other then m else macros_of names old other)
+
+-- A `define` line, from its `#` on, is carried out by the texts of its tokens.
+abbrev pub IsDefined : List Text → List PpTok → Macros → Macros → Type 0
+IsDefined names line old new = (d : Definition) × (definition (tokens_of names (drop 2 line)) ≡ Some d) × SetsText names old d.name.text (Some d.macro) new
+
+-- It is a wrong definition, whose `#` is at this place, or want of memory.
+abbrev pub IsUndefined : List Text → List PpTok → ExpandFault → Type 0
+IsUndefined names line (fault.BadDefine place) = (definition (tokens_of names (drop 2 line)) ≡ None) × (starts_at line ≡ Some (At place))
+IsUndefined names line (fault.ArgCount place) = ⊥
+IsUndefined names line (fault.OpenCall place) = ⊥
+IsUndefined names line (fault.BadPaste place) = ⊥
+IsUndefined names line fault.LimitMacros = ⊥
+IsUndefined names line fault.OutOfMemory = Unit {0}

@@ -4,6 +4,7 @@
 ghost use Rattle.cr_preproc.specs.PreprocessingRun.{GoesOn};
 
 mod condition;
+mod definitions;
 mod header;
 mod line;
 mod open_ifs;
