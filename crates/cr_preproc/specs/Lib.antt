@@ -9,3 +9,4 @@ pub mod Preprocessing
 pub mod PreprocessingRun
 pub mod Seen
 pub mod OpenIfs
+pub mod Readers

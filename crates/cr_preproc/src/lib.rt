@@ -8,6 +8,7 @@ mod definitions;
 mod header;
 mod line;
 mod open_ifs;
+mod reader;
 mod search;
 
 /// Where more files are known, a unit that wanted no file is preprocessed as before, and one that wanted
