@@ -10,3 +10,4 @@ pub mod PreprocessingRun
 pub mod Seen
 pub mod OpenIfs
 pub mod Readers
+pub mod Traces

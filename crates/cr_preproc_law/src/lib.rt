@@ -3,6 +3,7 @@
 
 ghost use Rattle.cr_preproc_law.specs.Renaming.{KeepsPreprocessing};
 ghost use Rattle.cr_preproc_law.specs.Finals.{FinalsPass};
+ghost use Rattle.cr_preproc_law.specs.Traces.{TracesAreFine};
 
 use cr_expand_law::{expansion_keeps_origins, renaming_keeps_each_use, renaming_keeps_expansion};
 use cr_lex::{renaming_keeps_lexing, tokens_stand_in_order};
@@ -33,3 +34,12 @@ pub fn renaming_keeps_preprocessing()
     renaming_keeps_each_use();
     final_tokens_come_from_text();
 }
+
+/// What a unit's trace says of a renaming: where each identifier at its places is at most final or
+/// dropped, the new name is defined as no macro and captures none of them, nothing that happens in the
+/// unit's preprocessing does harm.
+///
+/// It does nothing: its contract is the law.
+pub fn a_free_trace_does_no_harm()
+    ensures { TracesAreFine }
+{}
