@@ -4,4 +4,5 @@ pub mod ByTexts
 pub mod MacroNames
 pub mod Answered
 pub mod Growing
+pub mod Snapshots
 mod Rows
