@@ -7,11 +7,7 @@ use cr_base::{Name, NameTable, PpTok};
 use cr_macros::{ExpandFault, MacroTable};
 
 /// Carries a `define` line out, given from its `#` to the line's end. A refused line changes nothing.
-pub fn define(
-    macros: &mut MacroTable,
-    names: &NameTable,
-    line: &[PpTok],
-) -> Result<(), ExpandFault>
+pub fn define(macros: &mut MacroTable, names: &NameTable, line: &[PpTok]) -> Result<(), ExpandFault>
     requires words { 2 ≤ length line.now }
     requires placed { IsFirstPlaced line.now }
     requires line { AreNamed names.now line.now }

@@ -65,11 +65,7 @@ fn quoted(alloc: Global, text: &[u8]) -> Result<Option<Header>, OutOfMemory>
     }
 }
 
-fn angled(
-    alloc: Global,
-    names: &NameTable,
-    tokens: &[PpTok],
-) -> Result<Option<Header>, OutOfMemory>
+fn angled(alloc: Global, names: &NameTable, tokens: &[PpTok]) -> Result<Option<Header>, OutOfMemory>
     ensures { IfOk result (λ found. option_map seen_header found ≡ spec.angled (spec.to_greater (tokens_of names.now tokens.now))) }
 {
     let mut name = Vec::new(alloc);

@@ -26,3 +26,6 @@ pub fn larger_snapshots_agree()
 {
     known_files_stay_known();
 }
+
+#[cfg(test)]
+mod tests;

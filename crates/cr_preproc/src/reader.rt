@@ -16,11 +16,7 @@ pub struct Reader {
 
 impl Reader {
     // The beginning of a file.
-    pub fn new(
-        file: PathNo,
-        names: &mut NameTable,
-        bytes: &[u8],
-    ) -> Result<Reader, OutOfMemory>
+    pub fn new(file: PathNo, names: &mut NameTable, bytes: &[u8]) -> Result<Reader, OutOfMemory>
         requires bytes { length bytes.now ≤ 16777216 }
         requires room { length names.old < 2 ^ 32 - 1 }
         ensures reading { IfOk result (λ reader. reading names.new bytes.now reader ≡ lexed bytes.now) }
