@@ -107,9 +107,11 @@ module _ (r : Renaming) (table : Table) (free : IsFree r table) where
     go : (b : Bool) → is_renamed r t ≡ b → Kept rest (use_of table t rest) (use_of table1 (renamed r t) (all_renamed r rest)) (all_renamed r rest) (renamed r t) out left1 left2 events
     go false n =
         subst (λ x. Kept rest (use_of table t rest) (use_of table1 x (all_renamed r rest)) (all_renamed r rest) x out left1 left2 events) (sym (same_token r t n))
-        (subst (λ u. Kept rest (use_of table t rest) u (all_renamed r rest) (shifted r t) out left1 left2 events) (sym (use_of_same r table t rest))
-        (subst (λ p. Follows r (all_renamed r) p (put_for table1 (shifted r t) (renamed_use r (use_of table t rest)) left1)) e ((put_sim t (use_of table t rest) (same_token r t n) (free_use r table t rest free)).at left1) fine,
-        given_same (use_of table t rest), behind_same rest (use_of table t rest)))
+        (subst (λ u. Kept rest (use_of table t rest) u (all_renamed r rest) (shifted r t) out left1 left2 events) (sym (use_of_same r table t rest)) (
+          subst (λ p. Follows r (all_renamed r) p (put_for table1 (shifted r t) (renamed_use r (use_of table t rest)) left1)) e ((put_sim t (use_of table t rest) (same_token r t n) (free_use r table t rest free)).at left1) fine,
+          given_same (use_of table t rest),
+          behind_same rest (use_of table t rest),
+        ))
     go true n =
         subst (λ u. Kept rest (use_of table t rest) u (all_renamed r rest) (renamed r t) out left1 left2 events)
         (sym (ap (λ x. use_of table1 x (all_renamed r rest)) (by_renamed r t true n) ∙ new_keeps r table (shifted r t) (all_renamed r rest) free))

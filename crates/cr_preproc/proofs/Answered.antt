@@ -1,10 +1,8 @@
 -- The pieces of a list, one after another.
-use Rattle.std.proofs.Common.{◌≡◌, ℕ, zero, suc, ◌+◌, ◌-◌, ◌<◌, Bool, List, [], ◌∷◌, ◌++◌, length, map, drop, get_or, refl, ap, sym, ◌∙◌, subst, arith, drop-cons, add-one, append_assoc}
-use Rattle.std.proofs.lemmas.List.{map-append}
+use Rattle.std.proofs.Common.{◌≡◌, ℕ, zero, suc, ◌+◌, ◌-◌, ◌<◌, List, [], ◌∷◌, length, drop, get_or, ap, sym, ◌∙◌, arith, drop-cons, add-one}
 use Rattle.cr_base.specs.declared.token.PpTok.{PpTok}
 use Rattle.cr_macros.specs.Tokens.{Text, Token, token_of, tokens_of}
-use Rattle.cr_preproc.specs.Conditionals.{piece_at, pieces, answered}
-use Rattle.cr_preproc.specs.Seen.{seen_answer, answer_at}
+use Rattle.cr_preproc.specs.Conditionals.{pieces}
 
 at_index : (names : List Text) (tokens : List PpTok) (i : ℕ) (d : PpTok) → i < length tokens → tokens_of names (drop i tokens) ≡ token_of names [] (get_or tokens i d) ∷ tokens_of names (drop (i + 1) tokens)
 at_index names tokens i d h = ap (tokens_of names) (drop-cons tokens i d h ∙ ap (λ n. get_or tokens i d ∷ drop n tokens) (sym (add-one i)))

@@ -1,10 +1,9 @@
 -- A `define` line defines by the texts of its tokens what it defines by their numbers.
-use Rattle.std.proofs.Common.{◌≡◌, ℕ, zero, suc, ◌+◌, ◌-◌, ◌<◌, Bool, true, false, cond, List, [], ◌∷◌, ◌++◌, length, map, take, drop, get_or, refl, ap, sym, ◌∙◌, subst, Some, None, Option, arith, true≢false}
+use Rattle.std.proofs.Common.{◌≡◌, ℕ, zero, suc, ◌+◌, ◌-◌, ◌<◌, Bool, true, false, cond, List, [], ◌∷◌, ◌++◌, length, map, take, drop, get_or, refl, ap, sym, ◌∙◌, subst, Some, None, Option, true≢false}
 use Rattle.std.specs.Prelude.{codes, not, ◌||◌, ◌&&◌, ◌==◌, bytes_eq, position, slice_get, fold, nat_lt, is_some}
 use Rattle.std.specs.List.{list_any, prefix_len, position_or_len, slice_split, onto_first, AllByRecursion}
 use Rattle.std.specs.Option.{option_map}
 use Rattle.std.proofs.lemmas.Bool.{eq-eqb, eqb-true}
-use Rattle.std.proofs.lemmas.Bool.Decides.{nat_tests}
 use Rattle.std.proofs.lemmas.List.{map-append, length-map, take-map, drop-map}
 use Rattle.std.proofs.lemmas.Option.{slice_get-map, slice_get-get_or}
 use Rattle.std.proofs.lemmas.Slice.Eq.{bytes_eq-Decides}
@@ -13,7 +12,7 @@ use Rattle.cr_base.specs.declared.token.Name.{Name}
 use Rattle.cr_base.specs.declared.token.PpTok.{PpTok}
 use Rattle.cr_macros.specs.declared.macros.Macro.{Macro}
 use Rattle.cr_macros.specs.Tokens.{Text, Token, MacroText, is_ident, is_mark, token_of, tokens_of}
-use Rattle.cr_macros.specs.Substitution.{one_more, index_of, named_params, param, next_param}
+use Rattle.cr_macros.specs.Substitution.{one_more, index_of, param, next_param}
 use Rattle.cr_macros.specs.Definition as number
 use Rattle.cr_macros.specs.Definition.{text_of, has_name, is_kept_word}
 use Rattle.cr_macros.specs.MacroTables.{macro_text}

@@ -1,7 +1,6 @@
 -- Snapshots of which more is known.
 use Rattle.std.proofs.Common.{◌≡◌, ◌⊎◌, inl, inr, ℕ, ◌+◌, Bool, true, false, cond, List, [], ◌∷◌, ◌++◌, refl, ap, sym, ◌∙◌, Some, None, Option}
 use Rattle.std.specs.Prelude.{bytes_eq, not}
-use Rattle.std.specs.List.{prefix_len}
 use Rattle.cr_snapshot.specs.declared.known.KnownFile.{KnownFile}
 use Rattle.cr_snapshot.specs.Files.{Finding, Present, Absent, Unknown, told, finding_from, finding, StaysKnown}
 use Rattle.cr_macros.specs.Tokens.{Text}

@@ -184,11 +184,11 @@ module _ (r : Renaming) (not_reserved : is_reserved r.new ≡ false) (keeps_expa
       by_put s good (Gave ts left tellings) e =
           only_harmless s tellings (run_on go (is_given u) ts (left_behind rest u) (record s { work = left })) (with_put (renamed_state r s) go1 (is_given u1) (left_behind (all_renamed r rest) u1) (put_for table1 (renamed r t) u1 s.work))
           (λ harmless.
-              let kept = keeps_uses r table t rest ts s.work left tellings is_free e harmless in
-              subst (λ p. Follows r same (with_put s go (is_given u) (left_behind rest u) (Gave ts left tellings)) (with_put (renamed_state r s) go1 (is_given u1) (left_behind (all_renamed r rest) u1) p)) (sym kept.0)
-              (subst (λ b. Follows r same (with_put s go (is_given u) (left_behind rest u) (Gave ts left tellings)) (with_put (renamed_state r s) go1 b (left_behind (all_renamed r rest) u1) (Gave (all_renamed r ts) left (map (renamed_telling r) tellings)))) (sym kept.1)
-              (subst (λ x. Follows r same (with_put s go (is_given u) (left_behind rest u) (Gave ts left tellings)) (with_put (renamed_state r s) go1 (is_given u) x (Gave (all_renamed r ts) left (map (renamed_telling r) tellings)))) (sym kept.2)
-              (follows_put s (is_given u) ts (left_behind rest u) left tellings good))))
+          let kept = keeps_uses r table t rest ts s.work left tellings is_free e harmless in
+          subst (λ p. Follows r same (with_put s go (is_given u) (left_behind rest u) (Gave ts left tellings)) (with_put (renamed_state r s) go1 (is_given u1) (left_behind (all_renamed r rest) u1) p)) (sym kept.0)
+          (subst (λ b. Follows r same (with_put s go (is_given u) (left_behind rest u) (Gave ts left tellings)) (with_put (renamed_state r s) go1 b (left_behind (all_renamed r rest) u1) (Gave (all_renamed r ts) left (map (renamed_telling r) tellings)))) (sym kept.1)
+          (subst (λ x. Follows r same (with_put s go (is_given u) (left_behind rest u) (Gave ts left tellings)) (with_put (renamed_state r s) go1 (is_given u) x (Gave (all_renamed r ts) left (map (renamed_telling r) tellings)))) (sym kept.2)
+          (follows_put s (is_given u) ts (left_behind rest u) left tellings good))))
 
   sim_within : (table : Table) → IsFree r table → (n : ℕ) (ts : List Token) → Sim r same (runs_within n table ts) (runs_within n (renamed_table r table) (all_renamed r ts))
   sim_within table is_free zero ts = sim_ends r same (Over Macros) (ends (Over Macros))

@@ -10,3 +10,4 @@ pub mod Finals
 pub mod Apart
 pub mod Edited
 pub mod Traces
+mod Rows

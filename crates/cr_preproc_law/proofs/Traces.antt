@@ -13,9 +13,9 @@ use Rattle.cr_macros.specs.Tokens.{Text, Token, MacroText, Event as Telling, Rul
 use Rattle.cr_macros.specs.Substitution.{param, params_of, index_of}
 use Rattle.cr_expand_law.specs.Renaming.{Renaming, is_at, is_old, is_renamed, renamed, IsHarmless}
 use Rattle.cr_preproc.specs.Tasks.{Event, Took, Opened, Looked, Defined, Told, Final}
-use Rattle.cr_preproc.specs.Traces.{is_either, seen_telling, seen_of, new_macros_of, old_at, captures, body_params_of, trace_of}
+use Rattle.cr_preproc.specs.Traces.{seen_telling, seen_of, new_macros_of, old_at, captures, body_params_of}
 use Rattle.cr_preproc_law.specs.Renaming.{IsUncaptured, IsFine}
-use Rattle.cr_preproc_law.specs.Traces.{IsFree, IsFreeTrace, TracesAreFine}
+use Rattle.cr_preproc_law.specs.Traces.{IsFree, TracesAreFine}
 use Rattle.cr_preproc_law.proofs.Tokens.{by_renamed}
 
 both_left : {A : Type 0} (P : A → Type 0) (xs ys : List A) → AllByRecursion P (xs ++ ys) → AllByRecursion P xs
@@ -120,9 +120,9 @@ module _ (r : Renaming) where
   all_fine [] s n b = tt
   all_fine (e ∷ events) s n b = (
     event_fine e (both_left (λ (x : Seen). r.is_place x.place ≡ true → IsFree x.role) (seen_of r.old r.new e) (flat_map (seen_of r.old r.new) events) s) (empty_left (new_macros_of r.new e) (flat_map (new_macros_of r.new) events) n)
-    (both_left (λ place. r.is_place place ≡ false) (body_params_of r.old r.new e) (flat_map (body_params_of r.old r.new) events) b),
+        (both_left (λ place. r.is_place place ≡ false) (body_params_of r.old r.new e) (flat_map (body_params_of r.old r.new) events) b),
     all_fine events (both_right (λ (x : Seen). r.is_place x.place ≡ true → IsFree x.role) (seen_of r.old r.new e) (flat_map (seen_of r.old r.new) events) s) (empty_right (new_macros_of r.new e) (flat_map (new_macros_of r.new) events) n)
-    (both_right (λ place. r.is_place place ≡ false) (body_params_of r.old r.new e) (flat_map (body_params_of r.old r.new) events) b),
+        (both_right (λ place. r.is_place place ≡ false) (body_params_of r.old r.new e) (flat_map (body_params_of r.old r.new) events) b),
   )
 
 pub traces_are_fine : TracesAreFine

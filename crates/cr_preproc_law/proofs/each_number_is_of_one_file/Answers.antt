@@ -1,4 +1,4 @@
-use Rattle.std.proofs.Common.{◌≡◌, ℕ, List, [], ap, sym, ◌∙◌, Some, None, Option}
+use Rattle.std.proofs.Common.{ℕ, List, [], ap, sym, ◌∙◌, Some, None, Option}
 use Rattle.cr_snapshot.specs.declared.known.KnownFile.{KnownFile}
 use Rattle.cr_preproc_law.proofs.each_number_is_of_one_file.Goals as goal
 
