@@ -3,6 +3,8 @@ pub mod Searches
 pub mod ByTexts
 pub mod MacroNames
 pub mod Answered
+pub mod Leaving
+pub mod Deep
 pub mod Growing
 pub mod Snapshots
 mod Rows

@@ -2,6 +2,7 @@
 #![tactic(auto)]
 
 ghost use Rattle.cr_preproc.specs.PreprocessingRun.{GoesOn, SnapshotsAgree};
+ghost use Rattle.cr_preproc.specs.Runs.{FollowsTheRules};
 
 mod condition;
 mod definitions;
@@ -12,6 +13,12 @@ mod reader;
 mod search;
 
 use cr_snapshot::known_files_stay_known;
+
+/// The expansion of a run is what the rules of expansion say of it, however often they are used, where a
+/// token of the result is given out as soon as it is found. It does nothing: its contract is the law.
+pub fn a_run_follows_its_rules()
+    ensures { FollowsTheRules }
+{}
 
 /// Where more files are known, a unit that wanted no file is preprocessed as before, and one that wanted
 /// files does the same first. It does nothing: its contract is the law.
