@@ -6,7 +6,7 @@ use Rattle.cr_base.specs.declared.token.PpKind.{PpKind}
 use Rattle.cr_base.specs.declared.token.Place.{Place}
 use Rattle.cr_base.specs.declared.token.Origin.{Origin}
 use Rattle.cr_base.specs.declared.token.Origin.TheVariants.{At, Made}
-use Rattle.cr_base.specs.declared.cause.Role.TheVariants.{Dropped}
+use Rattle.cr_base.specs.declared.cause.Role.TheVariants.{Dropped, Final}
 use Rattle.cr_macros.specs.Tokens.{Text, Token, MacroText, Event, Rule, Taken, is_ident, Gave}
 use Rattle.cr_macros.specs.Substitution.{param}
 use Rattle.cr_macros.specs.Expansion.{Table, expand}
@@ -66,10 +66,11 @@ abbrev pub renamed_event : Renaming → Event → Event
 renamed_event r Rule = Rule
 renamed_event r (Taken text place role) = Taken (if is_at r text place then r.new else text) (r.shift place) role
 
--- what is seen of a renamed identifier is at most that a call used no copy of its argument
+-- what is seen of a renamed identifier is at most that it is final, or that a call used no copy of its argument
 abbrev pub IsHarmless : Renaming → Event → Type 0
 IsHarmless r Rule = Unit {0}
 IsHarmless r (Taken text place Dropped) = Unit {0}
+IsHarmless r (Taken text place Final) = Unit {0}
 IsHarmless r (Taken text place role) = is_at r text place ≡ false
 
 -- a renamed token of a body is no parameter, neither by its old nor by its new name

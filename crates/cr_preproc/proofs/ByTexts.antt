@@ -1,10 +1,9 @@
 -- A `define` line defines by the texts of its tokens what it defines by their numbers.
-use Rattle.std.proofs.Common.{◌≡◌, ℕ, zero, suc, ◌+◌, ◌-◌, ◌<◌, Bool, true, false, cond, List, [], ◌∷◌, ◌++◌, length, map, take, drop, get_or, refl, ap, sym, ◌∙◌, subst, Some, None, Option, arith, true≢false}
+use Rattle.std.proofs.Common.{◌≡◌, ℕ, zero, suc, ◌+◌, ◌-◌, ◌<◌, Bool, true, false, cond, List, [], ◌∷◌, ◌++◌, length, map, take, drop, get_or, refl, ap, sym, ◌∙◌, subst, Some, None, Option, true≢false}
 use Rattle.std.specs.Prelude.{codes, not, ◌||◌, ◌&&◌, ◌==◌, bytes_eq, position, slice_get, fold, nat_lt, is_some}
 use Rattle.std.specs.List.{list_any, prefix_len, position_or_len, slice_split, onto_first, AllByRecursion}
 use Rattle.std.specs.Option.{option_map}
 use Rattle.std.proofs.lemmas.Bool.{eq-eqb, eqb-true}
-use Rattle.std.proofs.lemmas.Bool.Decides.{nat_tests}
 use Rattle.std.proofs.lemmas.List.{map-append, length-map, take-map, drop-map}
 use Rattle.std.proofs.lemmas.Option.{slice_get-map, slice_get-get_or}
 use Rattle.std.proofs.lemmas.Slice.Eq.{bytes_eq-Decides}
@@ -13,7 +12,7 @@ use Rattle.cr_base.specs.declared.token.Name.{Name}
 use Rattle.cr_base.specs.declared.token.PpTok.{PpTok}
 use Rattle.cr_macros.specs.declared.macros.Macro.{Macro}
 use Rattle.cr_macros.specs.Tokens.{Text, Token, MacroText, is_ident, is_mark, token_of, tokens_of}
-use Rattle.cr_macros.specs.Substitution.{one_more, index_of, named_params, param, next_param}
+use Rattle.cr_macros.specs.Substitution.{one_more, index_of, param, next_param}
 use Rattle.cr_macros.specs.Definition as number
 use Rattle.cr_macros.specs.Definition.{text_of, has_name, is_kept_word}
 use Rattle.cr_macros.specs.MacroTables.{macro_text}
@@ -22,7 +21,7 @@ use Rattle.cr_preproc.specs.Definition.{Definition}
 use Rattle.cr_preproc.specs.Seen.{IsNamed, AreNamed, IsSameDefinition}
 
 -- two names of a table have one text only where they are one
-same_name : (names : List Text) (a b : Name) → IsDistinct names → a.0 < length names → b.0 < length names → bytes_eq (text_of names a) (text_of names b) ≡ (a.0 == b.0)
+pub same_name : (names : List Text) (a b : Name) → IsDistinct names → a.0 < length names → b.0 < length names → bytes_eq (text_of names a) (text_of names b) ≡ (a.0 == b.0)
 same_name names a b d h k = go (bytes_eq (text_of names a) (text_of names b)) refl (a.0 == b.0) refl where
   go : (x : Bool) → bytes_eq (text_of names a) (text_of names b) ≡ x → (y : Bool) → (a.0 == b.0) ≡ y → bytes_eq (text_of names a) (text_of names b) ≡ (a.0 == b.0)
   go true e true f = e ∙ sym f
@@ -60,7 +59,7 @@ take_named names zero ts h = tt
 take_named names (suc n) [] h = tt
 take_named names (suc n) (t ∷ ts) h = (h.0, take_named names n ts h.1)
 
-drop_named : (names : List Text) (n : ℕ) (ts : List PpTok) → AreNamed names ts → AreNamed names (drop n ts)
+pub drop_named : (names : List Text) (n : ℕ) (ts : List PpTok) → AreNamed names ts → AreNamed names (drop n ts)
 drop_named names zero ts h = h
 drop_named names (suc n) [] h = tt
 drop_named names (suc n) (t ∷ ts) h = drop_named names n ts h.1
@@ -303,14 +302,51 @@ module _ (names : List Text) (distinct : IsDistinct names) where
       ∙ ap (λ b. (number.has_pastes_inside names m.body && number.has_good_hashes names m.variadic m.body m.params) && (m.variadic || not b)) (rest_same m.body)
       ∙ and_assoc (number.has_pastes_inside names m.body) (number.has_good_hashes names m.variadic m.body m.params) (m.variadic || not (list_any (number.is_rest names) m.body))
 
+  -- the name
+
+  abbrev HasName : Name → Option Macro → Type 0
+  HasName name None = Unit {0}
+  HasName name (Some m) = m.name ≡ name
+
+  name_if : (name : Name) (b : Bool) (x y : Option Macro) → HasName name x → HasName name y → HasName name (cond b x y)
+  name_if name true x y h k = h
+  name_if name false x y h k = k
+
+  function_name : (name : Name) (body : List PpTok) (p : number.Params) → HasName name (number.function_like name body p)
+  function_name name body None = tt
+  function_name name body (Some (ps, v)) = refl
+
+  params_name : (name : Name) (rest : List PpTok) (o : Option ℕ) → HasName name (number.with_params names name rest o)
+  params_name name rest None = tt
+  params_name name rest (Some n) = function_name name (drop (n + 1) rest) (number.params_of names (take n rest))
+
+  macro_name : (name : Name) (rest : List PpTok) → HasName name (number.macro_of names name rest)
+  macro_name name [] = refl
+  macro_name name (t ∷ rest) =
+      name_if name (number.is_mark names (codes "(") t && not t.space) (number.with_params names name rest (position (number.is_mark names (codes ")")) rest)) (Some (number.object_like name (t ∷ rest)))
+      (params_name name rest (position (number.is_mark names (codes ")")) rest)) refl
+
+  good_name : (name : Name) (o : Option Macro) → HasName name o → HasName name (number.if_good names o)
+  good_name name None h = tt
+  good_name name (Some m) h = name_if name (number.is_good names m) (Some m) None h tt
+
+  definition_name : (t : PpTok) (rest : List PpTok) → HasName t.text (number.definition_of names (t ∷ rest))
+  definition_name t rest = name_if t.text (number.is_macro_name names t) (number.if_good names (number.macro_of names t.text rest)) None (good_name t.text (number.macro_of names t.text rest) (macro_name t.text rest)) tt
+
+  -- the name of a definition is in the table
+  pub name_known : (ts : List PpTok) (m : Macro) → AreNamed names ts → number.definition_of names ts ≡ Some m → m.name.0 < length names
+  name_known [] m h e = cc
+  name_known (t ∷ rest) m h e =
+      let same : m.name ≡ t.text = subst (HasName t.text) e (definition_name t rest) in subst (λ n. n.0 < length names) (sym same) h.0
+
   -- the whole
 
-  if_good_same : (t : PpTok) (rest : List PpTok) (o : Option Macro) → SomeKnown o → IsSameDefinition names (number.if_good names o) (text.if_good (seen t) (tokens_of names rest) (seen_macro o))
-  if_good_same t rest None h = tt
-  if_good_same t rest (Some m) h =
+  if_good_same : (t : PpTok) (rest : List PpTok) (o : Option Macro) → SomeKnown o → HasName t.text o → IsSameDefinition names (number.if_good names o) (text.if_good (seen t) (tokens_of names rest) (seen_macro o))
+  if_good_same t rest None h n = tt
+  if_good_same t rest (Some m) h n =
       subst (λ b. IsSameDefinition names (cond (number.is_good names m) (Some m) None) (cond b (Some (record { name = seen t; parameters = text.parameters_of (tokens_of names rest); macro = macro_text names m })) None)) (sym (good_same m h.0 h.1)) (go (number.is_good names m)) where
         go : (b : Bool) → IsSameDefinition names (cond b (Some m) None) (cond b (Some (record { name = seen t; parameters = text.parameters_of (tokens_of names rest); macro = macro_text names m })) None)
-        go true = refl
+        go true = (ap (text_of names) n, refl)
         go false = tt
 
   pub by_texts : (ts : List PpTok) → AreNamed names ts → IsSameDefinition names (number.definition_of names ts) (text.definition (tokens_of names ts))
@@ -320,5 +356,5 @@ module _ (names : List Text) (distinct : IsDistinct names) where
       (sym (and_assoc (is_ident t.kind) (not (is_kept_word (text_of names t.text))) (not (number.is_rest names t))))
       (subst (λ o. IsSameDefinition names (number.definition_of names (t ∷ rest)) (cond (number.is_macro_name names t) (text.if_good (seen t) (tokens_of names rest) o) None)) (sym (macro_same t.text rest h.1)) (go (number.is_macro_name names t))) where
         go : (b : Bool) → IsSameDefinition names (cond b (number.if_good names (number.macro_of names t.text rest)) None) (cond b (text.if_good (seen t) (tokens_of names rest) (seen_macro (number.macro_of names t.text rest))) None)
-        go true = if_good_same t rest (number.macro_of names t.text rest) (macro_known t.text rest h.1)
+        go true = if_good_same t rest (number.macro_of names t.text rest) (macro_known t.text rest h.1) (macro_name t.text rest)
         go false = tt

@@ -1,5 +1,10 @@
 pub mod Headers
 pub mod Searches
 pub mod ByTexts
+pub mod MacroNames
+pub mod Answered
+pub mod Leaving
+pub mod Deep
 pub mod Growing
+pub mod Snapshots
 mod Rows

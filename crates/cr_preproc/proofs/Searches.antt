@@ -1,5 +1,5 @@
 -- A search that has passed some paths.
-use Rattle.std.proofs.Common.{◌≡◌, List, [], ◌∷◌, ◌++◌}
+use Rattle.std.proofs.Common.{List, [], ◌∷◌, ◌++◌}
 use Rattle.cr_snapshot.specs.Files.{Finding}
 use Rattle.cr_macros.specs.Tokens.{Text}
 use Rattle.cr_preproc.specs.Search.{Search, Lacks, search, unknown}

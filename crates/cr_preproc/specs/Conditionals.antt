@@ -9,7 +9,7 @@ use Rattle.cr_cond.specs.declared.CondFault.{CondFault}
 use Rattle.cr_cond.specs.declared.CondFault.TheVariants as cond
 use Rattle.cr_cond.specs.Symbols.{Lexeme}
 use Rattle.cr_cond.specs.Value.{is_zero_int, is_defined, value_of, numbered}
-use Rattle.cr_macros.specs.Tokens.{Text, Token, is_ident, is_mark}
+use Rattle.cr_macros.specs.Tokens.{Text, Token, MacroText, is_ident, is_mark}
 use Rattle.cr_macros.specs.Substitution.{made, only_if}
 use Rattle.cr_macros.specs.Expansion.{predefined_named}
 use Rattle.cr_preproc.specs.Tasks.{Ill, Event, State, Task, ◌>>>◌, only, ends, tell, look, marks, in_directive}
@@ -38,9 +38,12 @@ group_if false = Before
 abbrev pub opened : Place → Group → List OpenIf → List OpenIf
 opened hash group cs = record { hash = hash; group = group; in_else = false } ∷ cs
 
--- the token names a macro, a predefined one too
+-- the token names one of these macros, or a predefined one
+abbrev pub is_macro_of : (Text → Option MacroText) → Token → Bool
+is_macro_of macros t = is_some (predefined_named t.text) || is_some (macros t.text)
+
 abbrev pub is_macro : State → Token → Bool
-is_macro s t = is_some (predefined_named t.text) || is_some (s.macro t.text)
+is_macro s = is_macro_of s.macro
 
 abbrev pub lexeme_of : Token → Lexeme
 lexeme_of t = record { kind = t.kind; text = t.text }
@@ -59,11 +62,19 @@ abbrev pub asked : List Token → Option (Token × ℕ)
 asked [] = None
 asked (t ∷ ts) = if is_ident t.kind then Some (t, 1) else if is_mark (codes "(") t then in_parentheses ts else None
 
+abbrev pub piece_by : Token → Option (Token × ℕ) → Piece × ℕ
+piece_by t None = (Other t, 0)
+piece_by t (Some (name, n)) = (Asks t name, n)
+
+-- the piece that begins with a token, and how many tokens it takes behind that
+abbrev pub piece_at : Token → List Token → Piece × ℕ
+piece_at t ts = piece_by t (only_if (is_defined (lexeme_of t)) (asked ts))
+
 -- the pieces of a list, of which the first `skip` tokens belong to the piece before
 abbrev pub pieces : ℕ → List Token → List Piece
 pieces skip [] = []
 pieces (suc skip) (t ∷ ts) = pieces skip ts
-pieces zero (t ∷ ts) = elim (only_if (is_defined (lexeme_of t)) (asked ts)) [ None ↦ Other t ∷ pieces zero ts | Some (name, n) ↦ Asks t name ∷ pieces n ts ]
+pieces zero (t ∷ ts) = let found = piece_at t ts in found.0 ∷ pieces found.1 ts
 
 -- `defined` with a name becomes 1 or 0
 abbrev pub answered : (Token → Bool) → Piece → Token

@@ -9,3 +9,5 @@ pub mod Preprocessing
 pub mod PreprocessingRun
 pub mod Seen
 pub mod OpenIfs
+pub mod Readers
+pub mod Traces

@@ -4,7 +4,8 @@ use Rattle.cr_base.specs.declared.unit.Unit.{Unit}
 use Rattle.cr_macros.specs.Tokens.{Text, Token, Event as Telling, Rule, Taken}
 use Rattle.cr_snapshot.specs.Files.{Unknown}
 use Rattle.cr_preproc.specs.Tasks.{Reply, End, Ill, Over, Needs, Goes, Ends, Nothing, Event, Took, Opened, Looked, Defined, Told, Final, events_of}
-use Rattle.cr_preproc.specs.Search.{World}
+use Rattle.cr_snapshot.specs.declared.known.KnownFile.{KnownFile}
+use Rattle.cr_preproc.specs.Search.{World, world_of}
 use Rattle.cr_preproc.specs.Preprocessing.{preprocessed}
 
 abbrev pub is_rule : Telling → Bool
@@ -67,3 +68,7 @@ IsLarger (Ends end events) reply = IsLargerEnd end events reply
 -- states are the same at the same positions.
 abbrev pub GoesOn : Type 0
 GoesOn = (w v : World) (u : Unit) → Agrees w v → IsLarger (preprocessed w u) (preprocessed v u)
+
+-- A snapshot of which one more file is known knows what it knew.
+abbrev pub SnapshotsAgree : Type 0
+SnapshotsAgree = (files : List KnownFile) (file : KnownFile) → Agrees (world_of files) (world_of (files ++ file ∷ []))

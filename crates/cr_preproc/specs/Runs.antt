@@ -1,7 +1,7 @@
 -- The expansion of a run: the tokens of text lines that no directive but a conditional one parts (C11 6.10.3p10 leaves
 -- a call over several lines, 6.10.3p11 makes a directive inside one undefined; that a run is one list is an own rule of
 -- this project).
-use Rattle.std.specs.Prelude.{ℕ, zero, suc, ◌+◌, Bool, true, false, if◌then◌else◌, List, [], ◌∷◌, ◌++◌, length}
+use Rattle.std.specs.Prelude.{◌≡◌, ℕ, zero, suc, ◌+◌, Bool, true, false, if◌then◌else◌, List, [], ◌∷◌, ◌++◌, length}
 use Rattle.cr_base.specs.declared.cause.IllCause.{IllCause}
 use Rattle.cr_base.specs.declared.cause.IllCause.TheVariants as cause
 use Rattle.cr_macros.specs.Tokens.{Text, Token}
@@ -35,10 +35,18 @@ abbrev pub runs_within : ℕ → Table → List Token → Task Nothing
 runs_within zero table ts = ends (Over Macros)
 runs_within (suc n) table ts = run_rules (runs_within n table) table ts
 
--- A run is expanded as one list. Each use of a rule lessens the macro work that is left and the length together, so these
--- are deep enough.
+-- A run with these macros. Each use of a rule lessens the macro work that is left and the length together, so this is deep
+-- enough, and a run is what the rules say of runs, which is a theorem.
+abbrev pub run_in : Table → List Token → Task Nothing
+run_in table ts s = runs_within (suc (s.work + length ts)) table ts s
+
+-- A run is expanded as one list.
 abbrev pub runs : Text → List Token → Task Nothing
-runs path ts s = runs_within (suc (s.work + length ts)) (table_in path s) ts s
+runs path ts s = run_in (table_in path s) ts s
+
+-- That theorem.
+abbrev pub FollowsTheRules : Type 0
+FollowsTheRules = (table : Table) (ts : List Token) (s : State) → run_in table ts s ≡ run_rules (run_in table) table ts s
 
 abbrev pub is_open_cause : IllCause → Bool
 is_open_cause cause.OpenCall = true

@@ -20,7 +20,7 @@ use Rattle.cr_preproc.specs.Runs.{expands}
 use Rattle.cr_preproc.specs.declared.open_ifs.OpenIf.{OpenIf}
 use Rattle.cr_preproc.specs.declared.open_ifs.Group.{Group}
 use Rattle.cr_preproc.specs.declared.open_ifs.Group.TheVariants.{Taken, Before, Past}
-use Rattle.cr_preproc.specs.Conditionals.{is_live, group_if, opened, is_macro, lexeme_of, Piece, Other, Asks, in_parentheses, asked, pieces, answered, asking, cause_of, is_true, condition, is_named, elif_in, group_of_else, begun, conditional, is_live_around, is_word_live}
+use Rattle.cr_preproc.specs.Conditionals.{is_live, group_if, opened, is_macro, lexeme_of, Piece, Other, Asks, in_parentheses, asked, piece_by, piece_at, pieces, answered, asking, cause_of, is_true, condition, is_named, elif_in, group_of_else, begun, conditional, is_live_around, is_word_live}
 use Rattle.cr_preproc_law.specs.Renaming.{renamed_state, IsSame, AreSame}
 use Rattle.cr_preproc_law.proofs.Tokens.{renamed_events, all_shifted, same_token, all_same, of_controlling, all_marked_same, marks_renamed, both_renamed, all_marks_renamed}
 use Rattle.cr_preproc_law.proofs.Following.{Sim, sim_then, sim_only, sim_ends, sim_look, sim_told, sim_tell, sim_to, sim_if, sim_in_directive, same, sim_expands}
@@ -92,30 +92,33 @@ abbrev AreSamePieces : Renaming → List Piece → Type 0
 AreSamePieces r [] = Unit {0}
 AreSamePieces r (p ∷ ps) = IsSamePiece r p × AreSamePieces r ps
 
-abbrev piece_by : Token → (ℕ → List Piece) → Option (Token × ℕ) → List Piece
-piece_by t more o = elim o [ None ↦ Other t ∷ more zero | Some (x, n) ↦ Asks t x ∷ more n ]
+piece_shifted : (r : Renaming) (t : Token) (o : Option (Token × ℕ)) → piece_by (shifted r t) (shifted_asked r o) ≡ (shifted_piece r (piece_by t o).0, (piece_by t o).1)
+piece_shifted r t None = refl
+piece_shifted r t (Some p) = refl
 
-piece_shifted : (r : Renaming) (t : Token) (more more1 : ℕ → List Piece) → ((n : ℕ) → more1 n ≡ map (shifted_piece r) (more n)) → (o : Option (Token × ℕ)) → piece_by (shifted r t) more1 (shifted_asked r o) ≡ map (shifted_piece r) (piece_by t more o)
-piece_shifted r t more more1 h None = ap (λ x. Other (shifted r t) ∷ x) (h zero)
-piece_shifted r t more more1 h (Some (x, n)) = ap (λ y. Asks (shifted r t) (shifted r x) ∷ y) (h n)
+piece_at_shifted : (r : Renaming) (t : Token) (ts : List Token) → piece_at (shifted r t) (all_shifted r ts) ≡ (shifted_piece r (piece_at t ts).0, (piece_at t ts).1)
+piece_at_shifted r t ts =
+    ap (λ o. piece_by (shifted r t) (only_if (is_defined (lexeme_of t)) o)) (asked_shifted r ts)
+    ∙ ap (piece_by (shifted r t)) (only_shifted r (is_defined (lexeme_of t)) (asked ts))
+    ∙ piece_shifted r t (only_if (is_defined (lexeme_of t)) (asked ts))
 
 pieces_shifted : (r : Renaming) (ts : List Token) (skip : ℕ) → pieces skip (all_shifted r ts) ≡ map (shifted_piece r) (pieces skip ts)
 pieces_shifted r [] skip = refl
 pieces_shifted r (t ∷ ts) (suc skip) = pieces_shifted r ts skip
 pieces_shifted r (t ∷ ts) zero =
-    ap (λ o. piece_by (shifted r t) (λ n. pieces n (all_shifted r ts)) (only_if (is_defined (lexeme_of t)) o)) (asked_shifted r ts)
-    ∙ ap (piece_by (shifted r t) (λ n. pieces n (all_shifted r ts))) (only_shifted r (is_defined (lexeme_of t)) (asked ts))
-    ∙ piece_shifted r t (λ n. pieces n ts) (λ n. pieces n (all_shifted r ts)) (pieces_shifted r ts) (only_if (is_defined (lexeme_of t)) (asked ts))
+    ap (λ (x : Piece × ℕ). x.0 ∷ pieces x.1 (all_shifted r ts)) (piece_at_shifted r t ts) ∙ ap (λ x. shifted_piece r (piece_at t ts).0 ∷ x) (pieces_shifted r ts (piece_at t ts).1)
 
-same_piece_by : (r : Renaming) (t : Token) (more : ℕ → List Piece) (o : Option (Token × ℕ)) → IsSame r t → IsSameAsked r o → ((n : ℕ) → AreSamePieces r (more n)) → AreSamePieces r (piece_by t more o)
-same_piece_by r t more None h a k = (h, k zero)
-same_piece_by r t more (Some (x, n)) h a k = ((h, a), k n)
+same_piece_by : (r : Renaming) (t : Token) (o : Option (Token × ℕ)) → IsSame r t → IsSameAsked r o → IsSamePiece r (piece_by t o).0
+same_piece_by r t None h a = h
+same_piece_by r t (Some (x, n)) h a = (h, a)
 
 same_pieces : (r : Renaming) (ts : List Token) (skip : ℕ) → AreSame r ts → AreSamePieces r (pieces skip ts)
 same_pieces r [] skip h = tt
 same_pieces r (t ∷ ts) (suc skip) h = same_pieces r ts skip h.1
-same_pieces r (t ∷ ts) zero h =
-    same_piece_by r t (λ n. pieces n ts) (only_if (is_defined (lexeme_of t)) (asked ts)) h.0 (same_only r (is_defined (lexeme_of t)) (asked ts) (same_asked r ts h.1)) (λ n. same_pieces r ts n h.1)
+same_pieces r (t ∷ ts) zero h = (
+  same_piece_by r t (only_if (is_defined (lexeme_of t)) (asked ts)) h.0 (same_only r (is_defined (lexeme_of t)) (asked ts) (same_asked r ts h.1)),
+  same_pieces r ts (piece_at t ts).1 h.1,
+)
 
 answered_same : (r : Renaming) (test test1 : Token → Bool) → ((t : Token) → test1 (shifted r t) ≡ test t) → (ps : List Piece) → AreSamePieces r ps → map (answered test1) (map (shifted_piece r) ps) ≡ all_renamed r (map (answered test) ps)
 answered_same r test test1 e [] h = refl

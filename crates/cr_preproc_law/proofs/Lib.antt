@@ -9,3 +9,5 @@ pub mod Texts
 pub mod Finals
 pub mod Apart
 pub mod Edited
+pub mod Traces
+mod Rows

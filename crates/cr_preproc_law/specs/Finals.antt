@@ -10,7 +10,8 @@ use Rattle.cr_macros.specs.Tokens.{Text, Token}
 use Rattle.cr_expand_law.specs.Origins.{AllPass}
 use Rattle.cr_preproc.specs.Tasks.{Event, State, Goes, Done}
 use Rattle.cr_preproc.specs.Lines.{File, file_of, Line, Plain, Conditional, Directive, Empty, Wordless, line_of}
-use Rattle.cr_preproc.specs.Search.{World}
+use Rattle.cr_snapshot.specs.declared.known.KnownFile.{KnownFile}
+use Rattle.cr_preproc.specs.Search.{World, world_of}
 use Rattle.cr_preproc.specs.Preprocessing.{preprocessed}
 use Rattle.cr_preproc.specs.PreprocessingRun.{final_tokens}
 
@@ -46,3 +47,7 @@ IsFinalPlace w place =
 -- a number is that of one file
 abbrev pub IsNumbered : World → Type 0
 IsNumbered w = (path other : Text) (n : ℕ) (bytes more : List ℕ) → w.find path ≡ Present n bytes → w.find other ≡ Present n more → bytes ≡ more
+
+-- So is each number of a snapshot.
+abbrev pub SnapshotsAreNumbered : Type 0
+SnapshotsAreNumbered = (files : List KnownFile) → IsNumbered (world_of files)

@@ -2,10 +2,12 @@
 #![tactic(auto)]
 
 ghost use Rattle.cr_preproc_law.specs.Renaming.{KeepsPreprocessing};
-ghost use Rattle.cr_preproc_law.specs.Finals.{FinalsPass};
+ghost use Rattle.cr_preproc_law.specs.Finals.{FinalsPass, SnapshotsAreNumbered};
+ghost use Rattle.cr_preproc_law.specs.Traces.{TracesAreFine};
 
 use cr_expand_law::{expansion_keeps_origins, renaming_keeps_each_use, renaming_keeps_expansion};
 use cr_lex::{renaming_keeps_lexing, tokens_stand_in_order};
+use cr_snapshot::known_files_stay_known;
 
 /// The final tokens of a unit come from text lines and from definitions of its files, or are made.
 ///
@@ -32,4 +34,20 @@ pub fn renaming_keeps_preprocessing()
     renaming_keeps_expansion();
     renaming_keeps_each_use();
     final_tokens_come_from_text();
+}
+
+/// What a unit's trace says of a renaming: where each identifier at its places is at most final or
+/// dropped, the new name is defined as no macro and captures none of them, nothing that happens in the
+/// unit's preprocessing does harm.
+///
+/// It does nothing: its contract is the law.
+pub fn a_free_trace_does_no_harm()
+    ensures { TracesAreFine }
+{}
+
+/// Each number of a snapshot is that of one file. It does nothing: its contract is the law.
+pub fn each_number_is_of_one_file()
+    ensures { SnapshotsAreNumbered }
+{
+    known_files_stay_known();
 }
