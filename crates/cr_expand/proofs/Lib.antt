@@ -14,3 +14,5 @@ pub mod Joins
 pub mod Marks
 pub mod Substitutes
 pub mod Headings
+pub mod Going
+pub mod Entering

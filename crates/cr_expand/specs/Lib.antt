@@ -5,3 +5,4 @@ pub mod Parts
 pub mod Pasting
 pub mod Placing
 pub mod Heading
+pub mod Running
