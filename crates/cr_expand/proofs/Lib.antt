@@ -16,3 +16,4 @@ pub mod Substitutes
 pub mod Headings
 pub mod Going
 pub mod Entering
+pub mod Closes

@@ -6,3 +6,6 @@ pub mod Pasting
 pub mod Placing
 pub mod Heading
 pub mod Running
+pub mod Slots
+pub mod Frames
+pub mod Calls

@@ -1,7 +1,9 @@
 //! Macro expansion with hide sets.
 #![tactic(auto)]
 
+mod closing;
 mod fill;
+mod frame;
 mod head;
 mod held;
 mod hide_sets;
@@ -12,6 +14,7 @@ mod parts;
 mod paste;
 mod pasting;
 mod place;
+mod slot;
 mod spelling;
 mod strings;
 mod subst;
