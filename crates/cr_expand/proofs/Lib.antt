@@ -17,3 +17,4 @@ pub mod Headings
 pub mod Going
 pub mod Entering
 pub mod Closes
+pub mod PartedLists

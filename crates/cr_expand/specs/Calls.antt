@@ -1,5 +1,5 @@
 -- Calls of function-like macros among slots (C11 6.10.3p10, p11).
-use Rattle.std.specs.Prelude.{◌≡◌, ℕ, zero, suc, ◌+◌, Bool, true, false, if◌then◌else◌, List, [], ◌∷◌, ◌++◌, length, codes, Option, Some, None}
+use Rattle.std.specs.Prelude.{◌≡◌, ℕ, zero, suc, ◌+◌, ◌-◌, ◌==◌, ◌&&◌, nat_le, slice_get, Bool, true, false, if◌then◌else◌, List, [], ◌∷◌, ◌++◌, length, codes, Option, Some, None}
 use Rattle.cr_expand.specs.declared.held.Held.{Held}
 use Rattle.cr_expand.specs.declared.slot.Slot.{Slot}
 use Rattle.cr_expand.specs.declared.slot.Slot.TheVariants as slot
@@ -32,3 +32,23 @@ IsClosed names sets slots close.Missing =
     × (slots ≡ a ∷ b ∷ (tokens inside ++ slot.End ∷ rest)) × (to_close 0 (all_held names sets inside) ≡ None)
 IsClosed names sets slots close.NotYet =
     (a b : Slot) × (inside : List Held) × (slots ≡ a ∷ b ∷ tokens inside) × (to_close 0 (all_held names sets inside) ≡ None)
+
+-- how many `(` are open behind a token; none where it is a comma that parts arguments, of which there may be n more
+abbrev pub part_at : ℕ → ℕ → Token → Option ℕ
+part_at n depth t =
+    if is_mark (codes "(") t then Some (depth + 1)
+    else if is_mark (codes ")") t then Some (depth - 1)
+    else if is_mark (codes ",") t && depth == 0 && nat_le 1 n then None
+    else Some depth
+
+abbrev pub IsTokenAt : List Slot → ℕ → Type 0
+IsTokenAt slots i = (h : Held) × (slice_get slots i ≡ Some (slot.Token h))
+
+-- The first two slots are a call's name and `(`, and its last slot is at this place, behind tokens.
+abbrev pub IsCallAt : List Slot → ℕ → Type 0
+IsCallAt slots n = (a b end : Slot) × (inside : List Held) × (rest : List Slot) × (slots ≡ a ∷ b ∷ (tokens inside ++ end ∷ rest)) × (n ≡ 2 + length inside)
+
+-- The tokens inside are parted by n commas at most, and each list stands with its end.
+abbrev pub ArePartedAt : List Text → ℕ → Slot → Slot → List Held → List Slot → List (List Held) → List Slot → Type 0
+ArePartedAt names n a b inside rest lists slots =
+    (slots ≡ a ∷ b ∷ (ended lists ++ rest)) × ((sets : Sets) → all_args names sets lists ≡ parted n 0 (all_held names sets inside))

@@ -9,3 +9,4 @@ pub mod Running
 pub mod Slots
 pub mod Frames
 pub mod Calls
+pub mod Partings

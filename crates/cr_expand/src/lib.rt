@@ -10,6 +10,7 @@ mod hide_sets;
 mod items;
 mod notes;
 mod params;
+mod parting;
 mod parts;
 mod paste;
 mod pasting;
