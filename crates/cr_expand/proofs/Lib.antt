@@ -18,3 +18,4 @@ pub mod Going
 pub mod Entering
 pub mod Closes
 pub mod PartedLists
+pub mod Turning

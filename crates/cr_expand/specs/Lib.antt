@@ -10,3 +10,4 @@ pub mod Slots
 pub mod Frames
 pub mod Calls
 pub mod Partings
+pub mod Turns

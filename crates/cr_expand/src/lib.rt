@@ -19,5 +19,6 @@ mod slot;
 mod spelling;
 mod strings;
 mod subst;
+mod turn;
 
 pub use cr_macros::{ExpandFault, Macro, MacroTable, Role, Seen};
