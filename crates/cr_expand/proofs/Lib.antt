@@ -19,3 +19,5 @@ pub mod Entering
 pub mod Closes
 pub mod PartedLists
 pub mod Turning
+pub mod FullMarks
+pub mod Interned

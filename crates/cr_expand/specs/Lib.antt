@@ -11,3 +11,5 @@ pub mod Frames
 pub mod Calls
 pub mod Partings
 pub mod Turns
+pub mod Wanted
+pub mod Predefines

@@ -15,10 +15,12 @@ mod parts;
 mod paste;
 mod pasting;
 mod place;
+mod predefined;
 mod slot;
 mod spelling;
 mod strings;
 mod subst;
 mod turn;
+mod wanted;
 
 pub use cr_macros::{ExpandFault, Macro, MacroTable, Role, Seen};
