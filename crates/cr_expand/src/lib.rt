@@ -2,12 +2,14 @@
 #![tactic(auto)]
 
 mod closing;
+mod expander;
 mod fill;
 mod frame;
 mod head;
 mod held;
 mod hide_sets;
 mod items;
+mod machine;
 mod notes;
 mod params;
 mod parting;
@@ -23,4 +25,9 @@ mod subst;
 mod turn;
 mod wanted;
 
+pub use expander::Expander;
+pub use machine::ExpStep;
 pub use cr_macros::{ExpandFault, Macro, MacroTable, Role, Seen};
+
+#[cfg(test)]
+mod tests;

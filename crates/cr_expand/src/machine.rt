@@ -1,0 +1,243 @@
+//! The uses of the rules of macro expansion, one after another.
+use crate::frame::Frame;
+use crate::held::Held;
+use crate::hide_sets::{HideSet, HideSets};
+use crate::notes::Notes;
+use crate::parting::{part, token_at};
+use crate::predefined::predefined_token;
+use crate::slot::{Slot, put_front, skip};
+use crate::subst::subst;
+use crate::turn::{Turn, turn_of};
+use crate::wanted::{counted, wanted};
+use cr_base::{Name, NameTable, PpTok, Role};
+use cr_macros::{ExpandFault, Macro, MacroTable, Predefined};
+use std::alloc::Global;
+use std::collections::VecDeque;
+
+/// How much macro work a translation unit may use.
+pub const LIMIT: u32 = 4_194_304;
+
+/// What a step of expansion gives.
+#[derive(Clone, Copy, Debug, PartialEq, Eq)]
+pub enum ExpStep {
+    /// The next token of the result.
+    Out(PpTok),
+    /// A rule was used, and gave no token of the result.
+    More,
+    /// A token that wasn't fed is needed.
+    Hungry,
+    /// All tokens of the result were given.
+    End,
+}
+
+/// The slots that are left, the calls that wait, the outermost first, and what was used and noted
+/// so far.
+#[derive(Drop)]
+pub struct Machine {
+    pub alloc: Global,
+    pub file: Name,
+    pub slots: VecDeque<Slot>,
+    pub frames: Vec<Frame>,
+    pub sets: HideSets,
+    pub notes: Notes,
+    pub used: u32,
+    pub finished: bool,
+}
+
+// The work that is used after a use of this cost.
+fn pay(used: u32, cost: usize) -> Result<u32, ExpandFault> {
+    if cost > (LIMIT - used) as usize {
+        return Err(ExpandFault::LimitMacros);
+    }
+    Ok(used + cost as u32)
+}
+
+// A token that a rule gives: the innermost call takes it, or else it is one of the result.
+fn give(frames: &mut Vec<Frame>, h: Held) -> Result<ExpStep, ExpandFault> {
+    match frames.pop() {
+        None => Ok(ExpStep::Out(h.token)),
+        Some(mut frame) => {
+            frame.put(h)?;
+            frames.push(frame)?;
+            Ok(ExpStep::More)
+        }
+    }
+}
+
+impl Machine {
+    // A token stays.
+    fn keep(&mut self, h: Held) -> Result<ExpStep, ExpandFault> {
+        let _ = self.slots.pop_front();
+        let step = give(&mut self.frames, h)?;
+        Ok(step)
+    }
+
+    // The name of a predefined macro.
+    fn predefined(
+        &mut self,
+        names: &mut NameTable,
+        h: Held,
+        p: Predefined,
+    ) -> Result<ExpStep, ExpandFault> {
+        let _ = self.slots.pop_front();
+        self.notes.take(names, Role::MacroName, h.token)?;
+        let token = predefined_token(names, self.file, h.token, p)?;
+        self.used = pay(self.used, 2)?;
+        let hide = self.sets.empty();
+        let step = give(&mut self.frames, Held { token, hide })?;
+        Ok(step)
+    }
+
+    // Puts in what stands for a macro's name.
+    fn put(
+        &mut self,
+        names: &mut NameTable,
+        name: Held,
+        m: &Macro,
+        raw: &[Vec<Held>],
+        full: &[Vec<Held>],
+        hide: HideSet,
+    ) -> Result<(), ExpandFault> {
+        let list = subst(
+            self.alloc,
+            names,
+            &mut self.sets,
+            &mut self.notes,
+            name.token,
+            m,
+            raw,
+            full,
+            hide,
+        )?;
+        self.used = pay(self.used, 1 + list.len())?;
+        put_front(&mut self.slots, &list)?;
+        Ok(())
+    }
+
+    // The name of an object-like macro.
+    fn object(
+        &mut self,
+        names: &mut NameTable,
+        h: Held,
+        m: &Macro,
+    ) -> Result<ExpStep, ExpandFault> {
+        let _ = self.slots.pop_front();
+        let hide = self.sets.with_one_more(h.hide, h.token.text)?;
+        self.put(names, h, m, &[], &[], hide)?;
+        Ok(ExpStep::More)
+    }
+
+    // A call is entered: its arguments are parted, and the first of them is begun.
+    fn enter(
+        &mut self,
+        names: &NameTable,
+        h: Held,
+        m: &Macro,
+        count: usize,
+        close: usize,
+    ) -> Result<(), ExpandFault> {
+        let end = token_at(&self.slots, close);
+        let commas = if m.variadic { count } else { close - 2 };
+        let lists = part(self.alloc, names, &mut self.slots, close, commas)?;
+        let more = lists.len() - 1;
+        let Some(raw) = counted(self.alloc, count, m.variadic, lists)? else {
+            return Err(ExpandFault::ArgCount(h.token.site));
+        };
+        let common = self.sets.both(self.alloc, h.hide, end.hide)?;
+        let hide = self.sets.with_one_more(common, h.token.text)?;
+        let expands = wanted(self.alloc, names, m, more + 1)?;
+        let _ = self.slots.pop_front();
+        let _ = self.slots.pop_front();
+        if !expands[0] {
+            skip(&mut self.slots);
+        }
+        let frame = Frame::new(self.alloc, h, hide, raw, more, expands);
+        self.frames.push(frame)?;
+        Ok(())
+    }
+
+    // All arguments of a call are expanded.
+    fn complete(
+        &mut self,
+        names: &mut NameTable,
+        macros: &MacroTable,
+        frame: &Frame,
+    ) -> Result<(), ExpandFault> {
+        match macros.lookup(frame.name().token.text) {
+            None => unreachable!(),
+            Some(m) => {
+                self.put(names, frame.name(), m, frame.raw(), frame.done(), frame.hide())?;
+                Ok(())
+            }
+        }
+    }
+
+    // An argument ends: the next one is begun, or the call's macro is put in.
+    fn end_argument(
+        &mut self,
+        names: &mut NameTable,
+        macros: &MacroTable,
+    ) -> Result<Option<ExpStep>, ExpandFault> {
+        let _ = self.slots.pop_front();
+        let Some(mut frame) = self.frames.pop() else {
+            unreachable!()
+        };
+        frame.finish_argument(self.alloc)?;
+        if !frame.has_more() {
+            self.complete(names, macros, &frame)?;
+            return Ok(Some(ExpStep::More));
+        }
+        if !frame.begin_next() {
+            skip(&mut self.slots);
+        }
+        self.frames.push(frame)?;
+        Ok(None)
+    }
+
+    // The next use of a rule; none where a call was entered or an argument ended.
+    fn turn(
+        &mut self,
+        names: &mut NameTable,
+        macros: &MacroTable,
+    ) -> Result<Option<ExpStep>, ExpandFault> {
+        let turn = turn_of(names, macros, &self.sets, &self.slots, self.finished);
+        match turn {
+            Turn::End => Ok(Some(ExpStep::End)),
+            Turn::Hungry => Ok(Some(ExpStep::Hungry)),
+            Turn::Unclosed(site) => Err(ExpandFault::OpenCall(site)),
+            Turn::ArgumentEnd => {
+                let step = self.end_argument(names, macros)?;
+                Ok(step)
+            }
+            Turn::Stays(h) => {
+                let step = self.keep(h)?;
+                Ok(Some(step))
+            }
+            Turn::Predefined(h, p) => {
+                let step = self.predefined(names, h, p)?;
+                Ok(Some(step))
+            }
+            Turn::Object(h, m) => {
+                let step = self.object(names, h, m)?;
+                Ok(Some(step))
+            }
+            Turn::Call(h, m, count, close) => {
+                self.enter(names, h, m, count, close)?;
+                Ok(None)
+            }
+        }
+    }
+
+    /// The next use of a rule, or why there is none.
+    pub fn next(
+        &mut self,
+        names: &mut NameTable,
+        macros: &MacroTable,
+    ) -> Result<ExpStep, ExpandFault> {
+        loop {
+            if let Some(step) = self.turn(names, macros)? {
+                return Ok(step);
+            }
+        }
+    }
+}
