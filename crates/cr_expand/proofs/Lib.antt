@@ -21,3 +21,4 @@ pub mod PartedLists
 pub mod Turning
 pub mod FullMarks
 pub mod Interned
+pub mod Puttings

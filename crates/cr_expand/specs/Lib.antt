@@ -13,3 +13,4 @@ pub mod Partings
 pub mod Turns
 pub mod Wanted
 pub mod Predefines
+pub mod Machines

@@ -1,4 +1,12 @@
 //! The uses of the rules of macro expansion, one after another.
+ghost use Rattle.std.specs.Prelude.{◌≡◌, ◌<◌, ◌≤◌, ◌+◌, ◌-◌, ◌^◌, ◌*◌, ◌++◌, ◌∷◌, [], List, IfOk, IfErr, OnOk, length, map, drop, ◌⊎◌, MatchResult};
+ghost use Rattle.std.specs.List.{All};
+ghost use Rattle.cr_macros.specs.Tokens.{Text, Token, token_of};
+ghost use Rattle.cr_macros.specs.MacroTables.{macro_text};
+ghost use Rattle.cr_expand.specs.Held.{held, hidden, all_args, IsKnown, AreKnown, IsNamed, AreTables, Faults};
+ghost use Rattle.cr_expand.specs.Items.{IsMacroKnown};
+ghost use Rattle.cr_expand.specs.Running.{put_for};
+ghost use Rattle.cr_expand.specs.Machines.{IsGiven, IsPut, IsSameRun};
 use crate::frame::Frame;
 use crate::held::Held;
 use crate::hide_sets::{HideSet, HideSets};
@@ -45,7 +53,10 @@ pub struct Machine {
 }
 
 // The work that is used after a use of this cost.
-fn pay(used: u32, cost: usize) -> Result<u32, ExpandFault> {
+fn pay(used: u32, cost: usize) -> Result<u32, ExpandFault>
+    requires { used ≤ LIMIT }
+    ensures { MatchResult result (λ now. (now ≡ used + cost) × (now ≤ LIMIT)) (λ e. (e ≡ ExpandFault.LimitMacros) × (LIMIT < used + cost)) }
+{
     if cost > (LIMIT - used) as usize {
         return Err(ExpandFault::LimitMacros);
     }
@@ -53,7 +64,10 @@ fn pay(used: u32, cost: usize) -> Result<u32, ExpandFault> {
 }
 
 // A token that a rule gives: the innermost call takes it, or else it is one of the result.
-fn give(frames: &mut Vec<Frame>, h: Held) -> Result<ExpStep, ExpandFault> {
+fn give(frames: &mut Vec<Frame>, h: Held) -> Result<ExpStep, ExpandFault>
+    ensures given { IfOk result (λ s. IsGiven frames.old.items h frames.new.items s) }
+    ensures memory { IfErr result (λ e. e ≡ ExpandFault.OutOfMemory) }
+{
     match frames.pop() {
         None => Ok(ExpStep::Out(h.token)),
         Some(mut frame) => {
@@ -97,7 +111,20 @@ impl Machine {
         raw: &[Vec<Held>],
         full: &[Vec<Held>],
         hide: HideSet,
-    ) -> Result<(), ExpandFault> {
+    ) -> Result<(), ExpandFault>
+        requires room { length names.old + 2 * length m.now.body < 2 ^ 32 - 1 }
+        requires tables { AreTables names.old self.old.sets }
+        requires name { IsKnown names.old self.old.sets name }
+        requires watched { IsNamed names.old self.old.notes.from × IsNamed names.old self.old.notes.to }
+        requires known { IsMacroKnown names.old m.now }
+        requires raw { All (AreKnown names.old self.old.sets) (map (λ v. v.items) raw.now) }
+        requires full { All (AreKnown names.old self.old.sets) (map (λ v. v.items) full.now) }
+        requires hide { hide.0 < length self.old.sets }
+        requires limit { self.old.used ≤ LIMIT }
+        ensures put { OnOk result (IsPut names.old names.new self.old self.new (put_for (held names.old self.old.sets name) (macro_text names.old m.now) (all_args names.old self.old.sets (map (λ v. v.items) raw.now)) (all_args names.old self.old.sets (map (λ v. v.items) full.now)) (hidden names.old self.old.sets hide.0)) self.old.slots.items) }
+        ensures faults { IfErr result (λ e. Faults (put_for (held names.old self.old.sets name) (macro_text names.old m.now) (all_args names.old self.old.sets (map (λ v. v.items) raw.now)) (all_args names.old self.old.sets (map (λ v. v.items) full.now)) (hidden names.old self.old.sets hide.0) (LIMIT - self.old.used)) e) }
+        ensures same { OnOk result (IsSameRun self.old self.new × (self.new.frames.items ≡ self.old.frames.items)) }
+    {
         let list = subst(
             self.alloc,
             names,
