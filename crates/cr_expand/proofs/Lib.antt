@@ -22,3 +22,5 @@ pub mod Turning
 pub mod FullMarks
 pub mod Interned
 pub mod Puttings
+pub mod HiddenSets
+pub mod Looked

@@ -9,13 +9,17 @@ use Rattle.cr_expand.specs.declared.held.Held.{Held}
 use Rattle.cr_expand.specs.declared.slot.Slot.{Slot}
 use Rattle.cr_expand.specs.declared.machine.Machine.{Machine}
 use Rattle.cr_expand.specs.declared.machine.TheConstants.{LIMIT}
-use Rattle.cr_macros.specs.Tokens.{Text, Token, Event, Rule, Over, Answer, Gave, Stopped, Work, after, then_do, ◌>>=◌, pay}
+use Rattle.cr_macros.specs.Tokens.{Text, Token, MacroText, Event, Rule, Over, Answer, Gave, Stopped, Work, after, then_do, ◌>>=◌, pay}
 use Rattle.cr_macros.specs.Expansion.{put_in}
 use Rattle.cr_expand.specs.HideSets.{Sets, Grows}
-use Rattle.cr_expand.specs.Held.{Watch, noted, Tells, Faults, watch_of, held, all_held, AreKnown, AreTables}
+use Rattle.cr_expand.specs.Held.{Watch, noted, Tells, Faults, watch_of, held, all_held, hidden, IsKnown, AreKnown, AreTables}
 use Rattle.cr_expand.specs.Slots.{tokens}
 use Rattle.cr_expand.specs.Machines.{IsPut}
 use Rattle.cr_expand.proofs.Noted.{noted_append}
+use Rattle.cr_expand.proofs.Sets.{grows_then, grows_same}
+use Rattle.cr_expand.proofs.Kept.{held_kept}
+use Rattle.cr_expand.specs.Hiding.{IsHidden}
+use Rattle.cr_expand.specs.Running.{put_for}
 
 module _ (w : Watch) (s0 s1 : List Seen) (value : List Token) (left : ℕ) where
   paid : (n : ℕ) → n ≤ left → pay n value left ≡ Gave value (left - n) (Rule ∷ [])
@@ -64,3 +68,26 @@ is_put names new old now m rest list t u l s k a g h =
       sets_grow = h;
       limit = l;
     }
+
+-- The same is put in, by the same work from the same place.
+pub put_again : (names new : List Text) (old mid now : Machine) (work work2 : Work (List Token)) (rest rest2 : List Slot) → mid.used ≡ old.used → mid.notes ≡ old.notes → Grows old.sets mid.sets → work ≡ work2 → rest ≡ rest2
+    → IsPut names new mid now work rest → IsPut names new old now work2 rest2
+put_again names new old mid now work work2 rest rest2 u n g e f p = record {
+  list = p.list;
+  events = p.events;
+  gives = ap (λ f. f (LIMIT - old.used)) (sym e) ∙ ap (λ x. work (LIMIT - x)) (sym u) ∙ p.gives;
+  seen = p.seen ∙ ap (λ x. x.seen.items ++ noted (watch_of names x) p.events) n;
+  slots = p.slots ∙ ap (λ l. tokens p.list ++ l) f;
+  known = p.known;
+  tables = p.tables;
+  names_grow = p.names_grow;
+  sets_grow = grows_then old.sets mid.sets now.sets g p.sets_grow;
+  limit = p.limit;
+}
+
+-- what is put in for an object-like macro
+pub object_work : (names : List Text) (old new : Sets) (h : Held) (m : MacroText) (n : ℕ) (hide : List Text) → AreTables names old → IsKnown names old h → IsHidden names old new n hide
+    → put_for (held names new h) m [] [] (hidden names new n) ≡ put_for (held names old h) m [] [] hide
+object_work names old new h m n hide t k p =
+    ap (λ x. put_for x m [] [] (hidden names new n)) (held_kept names names old new h (grows_same names) p.grows t.named k)
+    ∙ ap (put_for (held names old h) m [] []) p.text

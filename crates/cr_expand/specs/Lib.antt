@@ -14,3 +14,4 @@ pub mod Turns
 pub mod Wanted
 pub mod Predefines
 pub mod Machines
+pub mod Hiding

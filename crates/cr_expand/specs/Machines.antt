@@ -1,5 +1,5 @@
 -- What a machine of macro expansion holds, and what it still gives.
-use Rattle.std.specs.Prelude.{◌≡◌, ℕ, zero, suc, ◌+◌, ◌-◌, ◌<◌, ◌≤◌, Bool, true, false, List, [], ◌∷◌, ◌++◌, length, map, reverse, slice_index_or, Option, Some, None, ◌⊎◌}
+use Rattle.std.specs.Prelude.{◌≡◌, ℕ, zero, suc, ◌+◌, ◌-◌, ◌<◌, ◌≤◌, Bool, true, false, List, [], ◌∷◌, ◌++◌, length, map, reverse, slice_index_or, slice_get, Option, Some, None, ◌⊎◌}
 use Rattle.std.specs.List.{All}
 use Rattle.cr_base.specs.declared.token.Name.{Name}
 use Rattle.cr_base.specs.declared.token.PpTok.{PpTok}
@@ -9,18 +9,25 @@ use Rattle.cr_macros.specs.declared.fault.ExpandFault.{ExpandFault}
 use Rattle.cr_macros.specs.declared.fault.ExpandFault.TheVariants as fault
 use Rattle.cr_expand.specs.declared.held.Held.{Held}
 use Rattle.cr_expand.specs.declared.slot.Slot.{Slot}
+use Rattle.cr_expand.specs.declared.slot.Slot.TheVariants as slot
+use Rattle.cr_base.specs.NameTable.{IsDistinct}
+use Rattle.cr_base.specs.declared.token.PpKind.{PpKind}
+use Rattle.cr_base.specs.declared.cause.Role.TheVariants.{MacroName}
+use Rattle.cr_macros.specs.Substitution
+use Rattle.cr_macros.specs.Expansion.{arguments}
+use Rattle.cr_expand.specs.Heading.{AreMacrosKnown}
 use Rattle.cr_expand.specs.declared.machine.Machine.{Machine}
 use Rattle.cr_expand.specs.declared.machine.ExpStep.{ExpStep}
 use Rattle.cr_expand.specs.declared.machine.ExpStep.TheVariants as step
 use Rattle.cr_expand.specs.declared.machine.TheConstants.{LIMIT}
-use Rattle.cr_macros.specs.Tokens.{Text, Token, token_of, MacroText, Event, Rule, Taken, Answer, Gave, Stopped, Work}
+use Rattle.cr_macros.specs.Tokens.{Text, Token, token_of, MacroText, Event, Rule, Taken, Answer, Gave, Stopped, Work, takes, with_name, both}
 use Rattle.cr_macros.specs.Definition.{text_of}
 use Rattle.cr_macros.specs.MacroTables.{Macros, macro_named, macro_text, table_of}
 use Rattle.cr_expand.specs.HideSets.{Sets, Grows}
 use Rattle.cr_expand.specs.Held.{held, all_held, all_args, hidden, IsKnown, AreKnown, IsNamed, AreTables, watch_of, noted, Watch}
 use Rattle.cr_expand.specs.Frames.{Call}
-use Rattle.cr_expand.specs.Running.{Waiting, before, goes_on, leads}
-use Rattle.cr_expand.specs.Slots.{pieces, tokens, ends, AreSlotsKnown}
+use Rattle.cr_expand.specs.Running.{Waiting, before, goes_on, leads, put_for}
+use Rattle.cr_expand.specs.Slots.{pieces, tokens, ends, ended, from_end, AreSlotsKnown}
 use Rattle.cr_expand.specs.Wanted.{is_wanted}
 
 -- what the name of a macro means; that of no macro has no body
@@ -109,3 +116,67 @@ IsGiven old h now (step.Out t) = (old ≡ []) × (now ≡ []) × (t ≡ h.token)
 IsGiven old h now step.More = (cs : List Call) × (c : Call) × (old ≡ cs ++ c ∷ []) × (now ≡ cs ++ (record c { out = c.out ++ h ∷ [] }) ∷ [])
 IsGiven old h now step.Hungry = ⊥
 IsGiven old h now step.End = ⊥
+
+-- Nothing is changed but what is left and the calls.
+abbrev pub IsSameElsewhere : Machine → Machine → Type 0
+IsSameElsewhere old now = IsSameRun old now × (now.sets ≡ old.sets) × (now.notes.seen.items ≡ old.notes.seen.items) × (now.used ≡ old.used)
+
+-- A predefined macro's token is given.
+pub record IsPredefinedUse (names new : List Text) (old now : Machine) (h : Held) (given : PpKind × Text) (s : ExpStep) : Type 0 where
+  pub one : Held
+  pub made : held new old.sets one ≡ Substitution.made (held names old.sets h) given.0 given.1 h.token.space []
+  pub known : IsKnown new old.sets one
+  pub gives : IsGiven old.frames.items one now.frames.items s
+  pub seen : now.notes.seen.items ≡ old.notes.seen.items ++ noted (watch_of names old.notes) (takes MacroName (held names old.sets h))
+  pub used : now.used ≡ old.used + 2
+  pub limit : now.used ≤ LIMIT
+  pub grows : Grows names new
+  pub distinct : IsDistinct new
+
+-- A call's first two slots are its name and `(`, and its `)` is at this place.
+abbrev pub IsClosedAt : List Slot → ℕ → Type 0
+IsClosedAt slots n =
+    (a b : Slot) × (inside : List Held) × (closes : Held) × (rest : List Slot) × (slots ≡ a ∷ b ∷ (tokens inside ++ slot.Token closes ∷ rest)) × (n ≡ 2 + length inside)
+
+-- the slots without the tokens of the first list, where it isn't wanted
+abbrev pub begun : Bool → List Slot → List Slot
+begun true slots = slots
+begun false slots = from_end slots
+
+-- The arguments of a call are the lists between its commas; but the variable one may be missing, and where no argument is
+-- wanted, none stands there.
+abbrev pub AreArguments : List (List Held) → List (List Held) → Type 0
+AreArguments args lists = (args ≡ lists) ⊎ ((args ≡ lists ++ [] ∷ []) ⊎ ((args ≡ []) × (lists ≡ [] ∷ [])))
+
+-- A call is entered.
+pub record IsEntered (names : List Text) (old now : Machine) (h : Held) (m : Macro) (params : List Name) (inside : List Held) (closes : Held) (rest : List Slot) : Type 0 where
+  pub lists : List (List Held)
+  pub call : Call
+  pub frames : now.frames.items ≡ old.frames.items ++ call ∷ []
+  pub name : call.name ≡ h
+  pub done : call.done ≡ []
+  pub out : call.out ≡ []
+  pub count : length lists ≡ suc call.more
+  pub raw : AreArguments call.raw lists
+  pub args : arguments (map (text_of names) params) m.variadic (all_held names old.sets inside) ≡ Some (all_args names old.sets call.raw)
+  pub within : All (All (λ x. (k : ℕ) × (slice_get inside k ≡ Some x))) lists
+  pub hide : hidden names now.sets call.hide ≡ with_name (text_of names h.token.text) (both (hidden names old.sets h.hide.0) (hidden names old.sets closes.hide.0))
+  pub hide_known : call.hide < length now.sets
+  pub wanted : (i : ℕ) → i ≤ call.more → slice_index_or call.wanted i false ≡ is_wanted (macro_text names m) i
+  pub slots : now.slots.items ≡ begun (is_wanted (macro_text names m) 0) (ended lists ++ rest)
+  pub sets_grow : Grows old.sets now.sets
+  pub tables : AreTables names now.sets
+
+-- the next argument is begun
+abbrev pub next_call : Call → Call
+next_call c = record c { done = c.done ++ c.out ∷ []; out = []; more = c.more - 1 }
+
+-- what is put in for a call of which all arguments are expanded
+abbrev pub put_for_call : List Text → Macros → Sets → Call → Work (List Token)
+put_for_call names macros sets c =
+    put_for (held names sets c.name) (means_of names (macro_named c.name.token.text macros)) (all_args names sets c.raw) (all_args names sets c.done) (hidden names sets c.hide)
+
+-- The macros are known, and none has more than 33,554,432 tokens in its body.
+pub record AreMacros (names : List Text) (macros : Macros) : Type 0 where
+  pub known : AreMacrosKnown names macros
+  pub short : All (λ e. length e.1.body ≤ 33554432) macros

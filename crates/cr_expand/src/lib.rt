@@ -8,6 +8,7 @@ mod frame;
 mod head;
 mod held;
 mod hide_sets;
+mod hiding;
 mod items;
 mod machine;
 mod notes;

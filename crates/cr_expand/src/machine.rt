@@ -1,15 +1,25 @@
 //! The uses of the rules of macro expansion, one after another.
 ghost use Rattle.std.specs.Prelude.{◌≡◌, ◌<◌, ◌≤◌, ◌+◌, ◌-◌, ◌^◌, ◌*◌, ◌++◌, ◌∷◌, [], List, IfOk, IfErr, OnOk, length, map, drop, ◌⊎◌, MatchResult};
 ghost use Rattle.std.specs.List.{All};
-ghost use Rattle.cr_macros.specs.Tokens.{Text, Token, token_of};
+ghost use Rattle.cr_macros.specs.Tokens.{with_name};
 ghost use Rattle.cr_macros.specs.MacroTables.{macro_text};
 ghost use Rattle.cr_expand.specs.Held.{held, hidden, all_args, IsKnown, AreKnown, IsNamed, AreTables, Faults};
 ghost use Rattle.cr_expand.specs.Items.{IsMacroKnown};
 ghost use Rattle.cr_expand.specs.Running.{put_for};
-ghost use Rattle.cr_expand.specs.Machines.{IsGiven, IsPut, IsSameRun};
+ghost use Rattle.cr_base.specs.NameTable.{IsDistinct};
+ghost use Rattle.cr_base.specs.declared.token.Name.{Name as TheName};
+ghost use Rattle.cr_macros.specs.Definition.{text_of};
+ghost use Rattle.cr_macros.specs.Expansion.{predefined_token as spec_predefined_token, arguments};
+ghost use Rattle.cr_expand.specs.declared.held.Held.{Held as TheHeld};
+ghost use Rattle.cr_expand.specs.declared.slot.Slot.{Slot as TheSlot};
+ghost use Rattle.cr_expand.specs.Held.{all_held};
+ghost use Rattle.cr_expand.specs.Slots.{tokens};
+ghost use Rattle.cr_expand.specs.HideSets.{Grows};
+ghost use Rattle.cr_expand.specs.Machines.{IsGiven, IsPut, IsSameRun, IsSameElsewhere, IsPredefinedUse, IsClosedAt, IsEntered, IsCallKnown, AreMacros, put_for_call};
 use crate::frame::Frame;
 use crate::held::Held;
 use crate::hide_sets::{HideSet, HideSets};
+use crate::hiding::{hidden_by_call, with_one};
 use crate::notes::Notes;
 use crate::parting::{part, token_at};
 use crate::predefined::predefined_token;
@@ -80,7 +90,12 @@ fn give(frames: &mut Vec<Frame>, h: Held) -> Result<ExpStep, ExpandFault>
 
 impl Machine {
     // A token stays.
-    fn keep(&mut self, h: Held) -> Result<ExpStep, ExpandFault> {
+    fn keep(&mut self, h: Held) -> Result<ExpStep, ExpandFault>
+        ensures slots { self.new.slots.items ≡ drop 1 self.old.slots.items }
+        ensures given { IfOk result (λ s. IsGiven self.old.frames.items h self.new.frames.items s) }
+        ensures memory { IfErr result (λ e. e ≡ ExpandFault.OutOfMemory) }
+        ensures same { IsSameElsewhere self.old self.new }
+    {
         let _ = self.slots.pop_front();
         let step = give(&mut self.frames, h)?;
         Ok(step)
@@ -92,7 +107,16 @@ impl Machine {
         names: &mut NameTable,
         h: Held,
         p: Predefined,
-    ) -> Result<ExpStep, ExpandFault> {
+    ) -> Result<ExpStep, ExpandFault>
+        requires room { length names.old < 2 ^ 32 - 1 }
+        requires distinct { IsDistinct names.old }
+        requires file { IsNamed names.old self.old.file }
+        requires limit { self.old.used ≤ LIMIT }
+        ensures slots { OnOk result (self.new.slots.items ≡ drop 1 self.old.slots.items) }
+        ensures given { IfOk result (λ s. IsPredefinedUse names.old names.new self.old self.new h (spec_predefined_token (text_of names.old self.old.file) h.token.line p) s) }
+        ensures faults { IfErr result (λ e. (e ≡ ExpandFault.OutOfMemory) ⊎ ((e ≡ ExpandFault.LimitMacros) × (LIMIT < self.old.used + 2))) }
+        ensures same { OnOk result (IsSameRun self.old self.new × (self.new.sets ≡ self.old.sets)) }
+    {
         let _ = self.slots.pop_front();
         self.notes.take(names, Role::MacroName, h.token)?;
         let token = predefined_token(names, self.file, h.token, p)?;
@@ -147,9 +171,20 @@ impl Machine {
         names: &mut NameTable,
         h: Held,
         m: &Macro,
-    ) -> Result<ExpStep, ExpandFault> {
+    ) -> Result<ExpStep, ExpandFault>
+        requires room { length names.old + 2 * length m.now.body < 2 ^ 32 - 1 }
+        requires tables { AreTables names.old self.old.sets }
+        requires name { IsKnown names.old self.old.sets h }
+        requires watched { IsNamed names.old self.old.notes.from × IsNamed names.old self.old.notes.to }
+        requires known { IsMacroKnown names.old m.now }
+        requires limit { self.old.used ≤ LIMIT }
+        ensures put { OnOk result (IsPut names.old names.new self.old self.new (put_for (held names.old self.old.sets h) (macro_text names.old m.now) [] [] (with_name (text_of names.old h.token.text) (hidden names.old self.old.sets h.hide.0))) (drop 1 self.old.slots.items)) }
+        ensures faults { IfErr result (λ e. Faults (put_for (held names.old self.old.sets h) (macro_text names.old m.now) [] [] (with_name (text_of names.old h.token.text) (hidden names.old self.old.sets h.hide.0)) (LIMIT - self.old.used)) e) }
+        ensures same { OnOk result (IsSameRun self.old self.new × (self.new.frames.items ≡ self.old.frames.items)) }
+        ensures more { IfOk result (λ s. s ≡ ExpStep.More) }
+    {
         let _ = self.slots.pop_front();
-        let hide = self.sets.with_one_more(h.hide, h.token.text)?;
+        let hide = with_one(names, &mut self.sets, h.hide, h.token.text)?;
         self.put(names, h, m, &[], &[], hide)?;
         Ok(ExpStep::More)
     }
@@ -170,8 +205,14 @@ impl Machine {
         let Some(raw) = counted(self.alloc, count, m.variadic, lists)? else {
             return Err(ExpandFault::ArgCount(h.token.site));
         };
-        let common = self.sets.both(self.alloc, h.hide, end.hide)?;
-        let hide = self.sets.with_one_more(common, h.token.text)?;
+        let hide = hidden_by_call(
+            self.alloc,
+            names,
+            &mut self.sets,
+            h.hide,
+            end.hide,
+            h.token.text,
+        )?;
         let expands = wanted(self.alloc, names, m, more + 1)?;
         let _ = self.slots.pop_front();
         let _ = self.slots.pop_front();
@@ -189,7 +230,17 @@ impl Machine {
         names: &mut NameTable,
         macros: &MacroTable,
         frame: &Frame,
-    ) -> Result<(), ExpandFault> {
+    ) -> Result<(), ExpandFault>
+        requires room { length names.old < 2 ^ 31 }
+        requires macros { AreMacros names.old macros.now }
+        requires tables { AreTables names.old self.old.sets }
+        requires call { IsCallKnown names.old macros.now self.old.sets frame.now }
+        requires watched { IsNamed names.old self.old.notes.from × IsNamed names.old self.old.notes.to }
+        requires limit { self.old.used ≤ LIMIT }
+        ensures put { OnOk result (IsPut names.old names.new self.old self.new (put_for_call names.old macros.now self.old.sets frame.now) self.old.slots.items) }
+        ensures faults { IfErr result (λ e. Faults (put_for_call names.old macros.now self.old.sets frame.now (LIMIT - self.old.used)) e) }
+        ensures same { OnOk result (IsSameRun self.old self.new × (self.new.frames.items ≡ self.old.frames.items)) }
+    {
         match macros.lookup(frame.name().token.text) {
             None => unreachable!(),
             Some(m) => {
