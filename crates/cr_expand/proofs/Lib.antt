@@ -24,3 +24,4 @@ pub mod Interned
 pub mod Puttings
 pub mod HiddenSets
 pub mod Looked
+pub mod Counting

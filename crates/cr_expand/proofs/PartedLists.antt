@@ -2,6 +2,8 @@
 use Rattle.std.proofs.Common.{◌≡◌, ℕ, zero, suc, ◌+◌, ◌-◌, ◌<◌, ◌≤◌, Bool, true, false, cond, List, [], ◌∷◌, ◌++◌, length, map, set, refl, sym, ap, subst, ◌∙◌, arith, append_assoc, append-nil, length-append, Option, Some, None}
 use Rattle.std.specs.Prelude.{codes, ◌==◌, ◌&&◌, nat_le, if◌then◌else◌, slice_get}
 use Rattle.std.proofs.lemmas.List.{map-append}
+use Rattle.std.specs.List.{All}
+use Rattle.std.proofs.lemmas.List.Elements.{All-nil, All-cons, All-append}
 use Rattle.cr_expand.specs.declared.held.Held.{Held}
 use Rattle.cr_expand.specs.declared.slot.Slot.{Slot}
 use Rattle.cr_expand.specs.declared.slot.Slot.TheVariants as slot
@@ -12,7 +14,7 @@ use Rattle.cr_macros.specs.Expansion.{into_first, parted}
 use Rattle.cr_expand.specs.HideSets.{Sets}
 use Rattle.cr_expand.specs.Held.{held, all_held, all_args}
 use Rattle.cr_expand.specs.Slots.{tokens, ended}
-use Rattle.cr_expand.specs.Calls.{part_at, IsTokenAt, IsCallAt, ArePartedAt}
+use Rattle.cr_expand.specs.Calls.{part_at, IsTokenAt, IsCallAt, IsAmong, ArePartedAt}
 use Rattle.cr_expand.specs.Partings.{lists_of, IsTaken}
 
 -- tokens at the front of the first list
@@ -28,7 +30,7 @@ onto_new : (ts : List Token) (args : Args) → onto ts ([] ∷ args) ≡ ts ∷ 
 onto_new [] args = refl
 onto_new (x ∷ ts) args = ap (into_first x) (onto_new ts args)
 
-abbrev by_part : ℕ → Token → List Token → Option ℕ → ℕ → Args
+abbrev pub by_part : ℕ → Token → List Token → Option ℕ → ℕ → Args
 by_part n t ts None depth = [] ∷ parted (n - 1) depth ts
 by_part n t ts (Some d) depth = into_first t (parted n d ts)
 
@@ -40,7 +42,7 @@ part_cases n depth t ts false true parts = refl
 part_cases n depth t ts false false true = refl
 part_cases n depth t ts false false false = refl
 
-parted_at : (n depth : ℕ) (t : Token) (ts : List Token) → parted n depth (t ∷ ts) ≡ by_part n t ts (part_at n depth t) depth
+pub parted_at : (n depth : ℕ) (t : Token) (ts : List Token) → parted n depth (t ∷ ts) ≡ by_part n t ts (part_at n depth t) depth
 parted_at n depth t ts = part_cases n depth t ts (is_mark (codes "(") t) (is_mark (codes ")") t) (is_mark (codes ",") t && depth == 0 && nat_le 1 n)
 
 -- The lists so far are those of the tokens before, whatever comes.
@@ -99,7 +101,7 @@ get_mid (p ∷ pre) r rs = get_mid pre r rs
 abbrev pub PartedHere : List Text → ℕ → List Slot → ℕ → List (List Held) → List Held → ℕ → ℕ → Slot → Slot → Slot → List Held → List Slot → Type 0
 PartedHere names n slots i lists list commas depth a b end inside rest =
     (before left : List Held) × (inside ≡ before ++ left) × (2 + length before ≡ i) × (length (ended lists ++ tokens list) ≡ length before)
-    × (slots ≡ a ∷ b ∷ ((ended lists ++ tokens list) ++ (tokens left ++ end ∷ rest))) × IsParting names n before lists list commas depth
+    × (slots ≡ a ∷ b ∷ ((ended lists ++ tokens list) ++ (tokens left ++ end ∷ rest))) × IsParting names n before lists list commas depth × All (All (IsAmong inside)) lists × All (IsAmong inside) list
 
 abbrev pub IsPartedTo : List Text → ℕ → List Slot → List Slot → ℕ → ℕ → List (List Held) → List Held → ℕ → ℕ → Type 0
 IsPartedTo names n initial slots close i lists list commas depth =
@@ -107,7 +109,7 @@ IsPartedTo names n initial slots close i lists list commas depth =
     → PartedHere names n slots i lists list commas depth a b end inside rest
 
 pub parted_first : (names : List Text) (n : ℕ) (slots : List Slot) (close : ℕ) → IsPartedTo names n slots slots close 2 [] [] n 0
-parted_first names n slots close = λ a b end inside rest e f. ([], inside, refl, refl, refl, e, λ sets ts. refl)
+parted_first names n slots close = λ a b end inside rest e f. ([], inside, refl, refl, refl, e, λ sets ts. refl, All-nil (All (IsAmong inside)), All-nil (IsAmong inside))
 
 module _ (names : List Text) (n : ℕ) (slots : List Slot) (i : ℕ) (lists : List (List Held)) (list : List Held) (commas depth : ℕ) (a b end : Slot) (inside : List Held) (rest : List Slot) (close : ℕ) (f : close ≡ 2 + length inside) where
   abbrev Here : Type 0
@@ -121,8 +123,8 @@ module _ (names : List Text) (n : ℕ) (slots : List Slot) (i : ℕ) (lists : Li
       ∙ get_mid (ended lists ++ tokens list) (slot.Token h) (tokens left ++ end ∷ rest)
 
   token_of_here : i < close → Here → IsTokenAt slots i
-  token_of_here lt (before, [], p, q, r, s, t) = let l = ap length p in let m = length-append before [] in absurd (omega (arith, l, m, f, lt))
-  token_of_here lt (before, h ∷ left, p, q, r, s, t) = (h, at_token before left h q r s)
+  token_of_here lt (before, [], p, q, r, s, t, u, v) = let l = ap length p in let m = length-append before [] in absurd (omega (arith, l, m, f, lt))
+  token_of_here lt (before, h ∷ left, p, q, r, s, t, u, v) = (h, at_token before left h q r s)
 
   length_tokens : (hs : List Held) → length (tokens hs) ≡ length hs
   length_tokens [] = refl
@@ -134,10 +136,13 @@ module _ (names : List Text) (n : ℕ) (slots : List Slot) (i : ℕ) (lists : Li
   longer : (before : List Held) (h : Held) → length (before ++ h ∷ []) ≡ length before + 1
   longer before h = length-append before (h ∷ [])
 
+  among : (before left : List Held) (h : Held) → inside ≡ before ++ h ∷ left → IsAmong inside h
+  among before left h p = (length before, ap (λ l. slice_get l (length before)) p ∙ get_mid before h left)
+
   pub here_stays : (h : Held) (d : ℕ) → i < close → slice_get slots i ≡ Some (slot.Token h) → ((sets : Sets) → part_at commas depth (held names sets h) ≡ Some d) → Here
       → PartedHere names n slots (i + 1) lists (list ++ h ∷ []) commas d a b end inside rest
-  here_stays h d lt g e (before, [], p, q, r, s, t) = let l = ap length p in let m = length-append before [] in absurd (omega (arith, l, m, f, lt))
-  here_stays h d lt g e (before, x ∷ left, p, q, r, s, t) =
+  here_stays h d lt g e (before, [], p, q, r, s, t, u, v) = let l = ap length p in let m = length-append before [] in absurd (omega (arith, l, m, f, lt))
+  here_stays h d lt g e (before, x ∷ left, p, q, r, s, t, u, v) =
       let same : slot.Token x ≡ slot.Token h = by (sym (at_token before left x q r s) ∙ g) in
       let w : x ≡ h = token_same x h same in
       (before ++ h ∷ [], left,
@@ -147,7 +152,8 @@ module _ (names : List Text) (n : ℕ) (slots : List Slot) (i : ℕ) (lists : Li
         s ∙ ap (λ y. a ∷ b ∷ ((ended lists ++ tokens list) ++ (y ∷ (tokens left ++ end ∷ rest)))) same
           ∙ ap (λ l. a ∷ b ∷ l) (sym (append_assoc (ended lists ++ tokens list) (slot.Token h ∷ []) (tokens left ++ end ∷ rest))
             ∙ ap (λ l. l ++ (tokens left ++ end ∷ rest)) (append_assoc (ended lists) (tokens list) (slot.Token h ∷ []) ∙ ap (λ l. ended lists ++ l) (sym (tokens_append list (h ∷ []))))),
-        parting_stays names n before lists list commas depth d h e t) where
+        parting_stays names n before lists list commas depth d h e t, u,
+        All-append (IsAmong inside) list (h ∷ []) v (All-cons (IsAmong inside) h [] (among before left h (p ∙ ap (λ y. before ++ y ∷ left) w)) (All-nil (IsAmong inside)))) where
     by : {x y : Slot} → Some x ≡ Some y → x ≡ y
     by e = cc
     token_same : (x y : Held) → slot.Token x ≡ slot.Token y → x ≡ y
@@ -155,8 +161,8 @@ module _ (names : List Text) (n : ℕ) (slots : List Slot) (i : ℕ) (lists : Li
 
   pub here_parts : (h : Held) → i < close → slice_get slots i ≡ Some (slot.Token h) → ((sets : Sets) → part_at commas depth (held names sets h) ≡ None) → Here
       → PartedHere names n (set slots i slot.End) (i + 1) (lists ++ list ∷ []) [] (commas - 1) depth a b end inside rest
-  here_parts h lt g e (before, [], p, q, r, s, t) = let l = ap length p in let m = length-append before [] in absurd (omega (arith, l, m, f, lt))
-  here_parts h lt g e (before, x ∷ left, p, q, r, s, t) =
+  here_parts h lt g e (before, [], p, q, r, s, t, u, v) = let l = ap length p in let m = length-append before [] in absurd (omega (arith, l, m, f, lt))
+  here_parts h lt g e (before, x ∷ left, p, q, r, s, t, u, v) =
       let same : slot.Token x ≡ slot.Token h = by (sym (at_token before left x q r s) ∙ g) in
       let w : x ≡ h = token_same x h same in
       let grown : (ended lists ++ tokens list) ++ slot.End ∷ [] ≡ ended (lists ++ list ∷ []) ++ [] = append_assoc (ended lists) (tokens list) (slot.End ∷ []) ∙ sym (ended_more lists list) ∙ sym (append-nil (ended (lists ++ list ∷ []))) in
@@ -168,26 +174,28 @@ module _ (names : List Text) (n : ℕ) (slots : List Slot) (i : ℕ) (lists : Li
           ∙ ap (λ k. set (a ∷ b ∷ ((ended lists ++ tokens list) ++ (slot.Token x ∷ (tokens left ++ end ∷ rest)))) k slot.End) (let y : i ≡ suc (suc (length (ended lists ++ tokens list))) = omega arith in y)
           ∙ ap (λ l. a ∷ b ∷ l) (set_mid (ended lists ++ tokens list) (slot.Token x) slot.End (tokens left ++ end ∷ rest)
             ∙ sym (append_assoc (ended lists ++ tokens list) (slot.End ∷ []) (tokens left ++ end ∷ rest)) ∙ ap (λ l. l ++ (tokens left ++ end ∷ rest)) grown),
-        parting_parts names n before lists list commas depth h e t) where
+        parting_parts names n before lists list commas depth h e t,
+        All-append (All (IsAmong inside)) lists (list ∷ []) u (All-cons (All (IsAmong inside)) list [] v (All-nil (All (IsAmong inside)))), All-nil (IsAmong inside)) where
     by : {x y : Slot} → Some x ≡ Some y → x ≡ y
     by e = cc
     token_same : (x y : Held) → slot.Token x ≡ slot.Token y → x ≡ y
     token_same x y e = cc
 
   pub here_ends : i ≡ close → Here → ArePartedAt names n a b inside rest (lists ++ list ∷ []) (set slots i slot.End)
-  here_ends c (before, x ∷ left, p, q, r, s, t) = let l = ap length p in let m = length-append before (x ∷ left) in absurd (omega (arith, l, m, f, c))
-  here_ends c (before, [], p, q, r, s, t) =
+  here_ends c (before, x ∷ left, p, q, r, s, t, u, v) = let l = ap length p in let m = length-append before (x ∷ left) in absurd (omega (arith, l, m, f, c))
+  here_ends c (before, [], p, q, r, s, t, u, v) =
       (ap (λ l. set l i slot.End) s
         ∙ ap (λ k. set (a ∷ b ∷ ((ended lists ++ tokens list) ++ end ∷ rest)) k slot.End) (let y : i ≡ suc (suc (length (ended lists ++ tokens list))) = omega arith in y)
         ∙ ap (λ l. a ∷ b ∷ l) (set_mid (ended lists ++ tokens list) end slot.End rest
           ∙ sym (append_assoc (ended lists ++ tokens list) (slot.End ∷ []) rest) ∙ ap (λ l. l ++ rest) (append_assoc (ended lists) (tokens list) (slot.End ∷ []) ∙ sym (ended_more lists list))),
-       parting_ends names n inside lists list commas depth (subst (λ l. IsParting names n l lists list commas depth) (sym (p ∙ append-nil before)) t))
+       parting_ends names n inside lists list commas depth (subst (λ l. IsParting names n l lists list commas depth) (sym (p ∙ append-nil before)) t),
+       All-append (All (IsAmong inside)) lists (list ∷ []) u (All-cons (All (IsAmong inside)) list [] v (All-nil (All (IsAmong inside)))))
 
   -- the place is one of the slots
   pub here_within : i ≤ close → Here → i < length slots
-  here_within le (before, [], p, q, r, s, t) =
+  here_within le (before, [], p, q, r, s, t, u, v) =
       let l = ap length s in let m = length-append (ended lists ++ tokens list) (end ∷ rest) in omega (arith, l, m, r, q)
-  here_within le (before, x ∷ left, p, q, r, s, t) =
+  here_within le (before, x ∷ left, p, q, r, s, t, u, v) =
       let l = ap length s in let m = length-append (ended lists ++ tokens list) (slot.Token x ∷ (tokens left ++ end ∷ rest)) in omega (arith, l, m, r, q)
 
 -- the token at a place before the end

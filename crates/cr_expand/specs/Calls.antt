@@ -1,5 +1,6 @@
 -- Calls of function-like macros among slots (C11 6.10.3p10, p11).
 use Rattle.std.specs.Prelude.{◌≡◌, ℕ, zero, suc, ◌+◌, ◌-◌, ◌==◌, ◌&&◌, nat_le, slice_get, Bool, true, false, if◌then◌else◌, List, [], ◌∷◌, ◌++◌, length, codes, Option, Some, None}
+use Rattle.std.specs.List.{All}
 use Rattle.cr_expand.specs.declared.held.Held.{Held}
 use Rattle.cr_expand.specs.declared.slot.Slot.{Slot}
 use Rattle.cr_expand.specs.declared.slot.Slot.TheVariants as slot
@@ -48,7 +49,11 @@ IsTokenAt slots i = (h : Held) × (slice_get slots i ≡ Some (slot.Token h))
 abbrev pub IsCallAt : List Slot → ℕ → Type 0
 IsCallAt slots n = (a b end : Slot) × (inside : List Held) × (rest : List Slot) × (slots ≡ a ∷ b ∷ (tokens inside ++ end ∷ rest)) × (n ≡ 2 + length inside)
 
+-- The token is one of these.
+abbrev pub IsAmong : List Held → Held → Type 0
+IsAmong inside h = (k : ℕ) × (slice_get inside k ≡ Some h)
+
 -- The tokens inside are parted by n commas at most, and each list stands with its end.
 abbrev pub ArePartedAt : List Text → ℕ → Slot → Slot → List Held → List Slot → List (List Held) → List Slot → Type 0
 ArePartedAt names n a b inside rest lists slots =
-    (slots ≡ a ∷ b ∷ (ended lists ++ rest)) × ((sets : Sets) → all_args names sets lists ≡ parted n 0 (all_held names sets inside))
+    (slots ≡ a ∷ b ∷ (ended lists ++ rest)) × ((sets : Sets) → all_args names sets lists ≡ parted n 0 (all_held names sets inside)) × All (All (IsAmong inside)) lists

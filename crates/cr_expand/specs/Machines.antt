@@ -29,6 +29,7 @@ use Rattle.cr_expand.specs.Frames.{Call}
 use Rattle.cr_expand.specs.Running.{Waiting, before, goes_on, leads, put_for}
 use Rattle.cr_expand.specs.Slots.{pieces, tokens, ends, ended, from_end, AreSlotsKnown}
 use Rattle.cr_expand.specs.Wanted.{is_wanted}
+use Rattle.cr_expand.specs.Calls.{IsAmong}
 
 -- what the name of a macro means; that of no macro has no body
 abbrev pub means_of : List Text → Option Macro → MacroText
@@ -180,3 +181,17 @@ put_for_call names macros sets c =
 pub record AreMacros (names : List Text) (macros : Macros) : Type 0 where
   pub known : AreMacrosKnown names macros
   pub short : All (λ e. length e.1.body ≤ 33554432) macros
+
+-- The arguments of a call, as they are, and how many lists come behind the first.
+pub record AreTaken (names : List Text) (now : List Slot) (m : Macro) (params : List Name) (a b : Slot) (inside : List Held) (rest : List Slot) (raw : List (List Held)) (more : ℕ) : Type 0 where
+  pub lists : List (List Held)
+  pub slots : now ≡ a ∷ b ∷ (ended lists ++ rest)
+  pub count : length lists ≡ suc more
+  pub raw_are : AreArguments raw lists
+  pub args : (sets : Sets) → arguments (map (text_of names) params) m.variadic (all_held names sets inside) ≡ Some (all_args names sets raw)
+  pub among : All (All (IsAmong inside)) lists
+
+-- Why the arguments aren't taken.
+abbrev pub IsMiscounted : List Text → Macro → List Name → List Held → Held → ExpandFault → Type 0
+IsMiscounted names m params inside h e =
+    (e ≡ fault.OutOfMemory) ⊎ ((e ≡ fault.ArgCount h.token.site) × ((sets : Sets) → arguments (map (text_of names) params) m.variadic (all_held names sets inside) ≡ None))

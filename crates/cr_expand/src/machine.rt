@@ -1,5 +1,5 @@
 //! The uses of the rules of macro expansion, one after another.
-ghost use Rattle.std.specs.Prelude.{◌≡◌, ◌<◌, ◌≤◌, ◌+◌, ◌-◌, ◌^◌, ◌*◌, ◌++◌, ◌∷◌, [], List, IfOk, IfErr, OnOk, length, map, drop, ◌⊎◌, MatchResult};
+ghost use Rattle.std.specs.Prelude.{◌≡◌, ◌<◌, ◌≤◌, ◌+◌, ◌-◌, ◌^◌, ◌*◌, ◌++◌, ◌∷◌, [], List, IfOk, IfErr, OnOk, length, map, drop, ◌⊎◌, MatchResult, if◌then◌else◌};
 ghost use Rattle.std.specs.List.{All};
 ghost use Rattle.cr_macros.specs.Tokens.{with_name};
 ghost use Rattle.cr_macros.specs.MacroTables.{macro_text};
@@ -14,8 +14,9 @@ ghost use Rattle.cr_expand.specs.declared.held.Held.{Held as TheHeld};
 ghost use Rattle.cr_expand.specs.declared.slot.Slot.{Slot as TheSlot};
 ghost use Rattle.cr_expand.specs.Held.{all_held};
 ghost use Rattle.cr_expand.specs.Slots.{tokens};
+ghost use Rattle.cr_expand.specs.Calls.{IsCallAt};
 ghost use Rattle.cr_expand.specs.HideSets.{Grows};
-ghost use Rattle.cr_expand.specs.Machines.{IsGiven, IsPut, IsSameRun, IsSameElsewhere, IsPredefinedUse, IsClosedAt, IsEntered, IsCallKnown, AreMacros, put_for_call};
+ghost use Rattle.cr_expand.specs.Machines.{IsGiven, IsPut, IsSameRun, IsSameElsewhere, IsPredefinedUse, IsClosedAt, IsEntered, IsCallKnown, AreMacros, put_for_call, AreTaken, IsMiscounted};
 use crate::frame::Frame;
 use crate::held::Held;
 use crate::hide_sets::{HideSet, HideSets};
@@ -71,6 +72,14 @@ fn pay(used: u32, cost: usize) -> Result<u32, ExpandFault>
         return Err(ExpandFault::LimitMacros);
     }
     Ok(used + cost as u32)
+}
+
+// How many commas may part a call's arguments: those of the variable one stay in it.
+fn most_commas(variadic: bool, count: usize, close: usize) -> usize
+    requires { 2 ≤ close }
+    ensures { result ≡ (if variadic then count else close - 2) }
+{
+    if variadic { count } else { close - 2 }
 }
 
 // A token that a rule gives: the innermost call takes it, or else it is one of the result.
@@ -189,6 +198,30 @@ impl Machine {
         Ok(ExpStep::More)
     }
 
+    // The arguments of a call, which are parted in place, and how many lists come behind the first.
+    fn take_arguments(
+        &mut self,
+        names: &NameTable,
+        h: Held,
+        m: &Macro,
+        count: usize,
+        close: usize,
+    ) -> Result<(Vec<Vec<Held>>, usize), ExpandFault>
+        requires call { IsCallAt self.old.slots.items close }
+        requires small { count < 2 ^ 63 }
+        ensures taken { (a b end : TheSlot) (inside : List TheHeld) (rest : List TheSlot) (params : List TheName) → self.old.slots.items ≡ a ∷ b ∷ (tokens inside ++ end ∷ rest) → close ≡ 2 + length inside → m.now.params ≡ Some params → count ≡ length params → IfOk result (λ r. AreTaken names.now self.new.slots.items m.now params a b inside rest (map (λ v. v.items) r.0.items) r.1) }
+        ensures faults { (a b end : TheSlot) (inside : List TheHeld) (rest : List TheSlot) (params : List TheName) → self.old.slots.items ≡ a ∷ b ∷ (tokens inside ++ end ∷ rest) → close ≡ 2 + length inside → m.now.params ≡ Some params → count ≡ length params → IfErr result (λ e. IsMiscounted names.now m.now params inside h e) }
+        ensures same { IsSameElsewhere self.old self.new × (self.new.frames.items ≡ self.old.frames.items) }
+    {
+        let commas = most_commas(m.variadic, count, close);
+        let lists = part(self.alloc, names, &mut self.slots, close, commas)?;
+        let more = lists.len() - 1;
+        match counted(self.alloc, count, m.variadic, lists)? {
+            None => Err(ExpandFault::ArgCount(h.token.site)),
+            Some(raw) => Ok((raw, more)),
+        }
+    }
+
     // A call is entered: its arguments are parted, and the first of them is begun.
     fn enter(
         &mut self,
@@ -199,12 +232,7 @@ impl Machine {
         close: usize,
     ) -> Result<(), ExpandFault> {
         let end = token_at(&self.slots, close);
-        let commas = if m.variadic { count } else { close - 2 };
-        let lists = part(self.alloc, names, &mut self.slots, close, commas)?;
-        let more = lists.len() - 1;
-        let Some(raw) = counted(self.alloc, count, m.variadic, lists)? else {
-            return Err(ExpandFault::ArgCount(h.token.site));
-        };
+        let (raw, more) = self.take_arguments(names, h, m, count, close)?;
         let hide = hidden_by_call(
             self.alloc,
             names,
