@@ -25,3 +25,4 @@ pub mod Puttings
 pub mod HiddenSets
 pub mod Looked
 pub mod Counting
+pub mod Entries

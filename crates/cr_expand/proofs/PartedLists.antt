@@ -93,7 +93,7 @@ set_mid : {A : Type 0} (pre : List A) (r v : A) (rs : List A) → set (pre ++ r 
 set_mid [] r v rs = refl
 set_mid (p ∷ pre) r v rs = ap (λ l. p ∷ l) (set_mid pre r v rs)
 
-get_mid : {A : Type 0} (pre : List A) (r : A) (rs : List A) → slice_get (pre ++ r ∷ rs) (length pre) ≡ Some r
+pub get_mid : {A : Type 0} (pre : List A) (r : A) (rs : List A) → slice_get (pre ++ r ∷ rs) (length pre) ≡ Some r
 get_mid [] r rs = refl
 get_mid (p ∷ pre) r rs = get_mid pre r rs
 

@@ -1,5 +1,5 @@
 -- What a machine of macro expansion holds, and what it still gives.
-use Rattle.std.specs.Prelude.{◌≡◌, ℕ, zero, suc, ◌+◌, ◌-◌, ◌<◌, ◌≤◌, Bool, true, false, List, [], ◌∷◌, ◌++◌, length, map, reverse, slice_index_or, slice_get, Option, Some, None, ◌⊎◌}
+use Rattle.std.specs.Prelude.{◌≡◌, ℕ, zero, suc, ◌+◌, ◌-◌, ◌<◌, ◌≤◌, Bool, true, false, List, [], ◌∷◌, ◌++◌, length, map, reverse, slice_index_or, Option, Some, None, ◌⊎◌}
 use Rattle.std.specs.List.{All}
 use Rattle.cr_base.specs.declared.token.Name.{Name}
 use Rattle.cr_base.specs.declared.token.PpTok.{PpTok}
@@ -27,7 +27,7 @@ use Rattle.cr_expand.specs.HideSets.{Sets, Grows}
 use Rattle.cr_expand.specs.Held.{held, all_held, all_args, hidden, IsKnown, AreKnown, IsNamed, AreTables, watch_of, noted, Watch}
 use Rattle.cr_expand.specs.Frames.{Call}
 use Rattle.cr_expand.specs.Running.{Waiting, before, goes_on, leads, put_for}
-use Rattle.cr_expand.specs.Slots.{pieces, tokens, ends, ended, from_end, AreSlotsKnown}
+use Rattle.cr_expand.specs.Slots.{pieces, tokens, ends, ended, begun, AreSlotsKnown}
 use Rattle.cr_expand.specs.Wanted.{is_wanted}
 use Rattle.cr_expand.specs.Calls.{IsAmong}
 
@@ -139,11 +139,6 @@ abbrev pub IsClosedAt : List Slot → ℕ → Type 0
 IsClosedAt slots n =
     (a b : Slot) × (inside : List Held) × (closes : Held) × (rest : List Slot) × (slots ≡ a ∷ b ∷ (tokens inside ++ slot.Token closes ∷ rest)) × (n ≡ 2 + length inside)
 
--- the slots without the tokens of the first list, where it isn't wanted
-abbrev pub begun : Bool → List Slot → List Slot
-begun true slots = slots
-begun false slots = from_end slots
-
 -- The arguments of a call are the lists between its commas; but the variable one may be missing, and where no argument is
 -- wanted, none stands there.
 abbrev pub AreArguments : List (List Held) → List (List Held) → Type 0
@@ -160,7 +155,7 @@ pub record IsEntered (names : List Text) (old now : Machine) (h : Held) (m : Mac
   pub count : length lists ≡ suc call.more
   pub raw : AreArguments call.raw lists
   pub args : arguments (map (text_of names) params) m.variadic (all_held names old.sets inside) ≡ Some (all_args names old.sets call.raw)
-  pub within : All (All (λ x. (k : ℕ) × (slice_get inside k ≡ Some x))) lists
+  pub among : All (All (IsAmong inside)) lists
   pub hide : hidden names now.sets call.hide ≡ with_name (text_of names h.token.text) (both (hidden names old.sets h.hide.0) (hidden names old.sets closes.hide.0))
   pub hide_known : call.hide < length now.sets
   pub wanted : (i : ℕ) → i ≤ call.more → slice_index_or call.wanted i false ≡ is_wanted (macro_text names m) i

@@ -44,3 +44,8 @@ ends (slot.End ∷ ss) = 1 + ends ss
 abbrev pub ended : List (List Held) → List Slot
 ended [] = []
 ended (hs ∷ lists) = tokens hs ++ slot.End ∷ ended lists
+
+-- the slots without the tokens of the first list, where it isn't wanted
+abbrev pub begun : Bool → List Slot → List Slot
+begun true slots = slots
+begun false slots = from_end slots

@@ -104,14 +104,19 @@ impl Frame {
         0 < self.more
     }
 
-    /// The next argument is begun; tells whether it is wanted expanded.
-    pub fn begin_next(&mut self) -> bool
+    /// The next argument is begun.
+    pub fn begin_next(&mut self)
         requires { 0 < self.old.more }
-        ensures begun { self.new ≡ record self.old { more = self.old.more - 1 } }
-        ensures wanted { result ≡ slice_index_or self.old.wanted (length self.old.done) false }
+        ensures { self.new ≡ record self.old { more = self.old.more - 1 } }
     {
         self.more -= 1;
-        let next = self.done.len();
-        next < self.wanted.len() && self.wanted[next]
+    }
+
+    /// Whether the argument that is begun is wanted expanded.
+    pub fn is_wanted(&self) -> bool
+        ensures { result ≡ slice_index_or self.now.wanted (length self.now.done) false }
+    {
+        let current = self.done.len();
+        current < self.wanted.len() && self.wanted[current]
     }
 }

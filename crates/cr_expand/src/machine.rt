@@ -13,7 +13,7 @@ ghost use Rattle.cr_macros.specs.Expansion.{predefined_token as spec_predefined_
 ghost use Rattle.cr_expand.specs.declared.held.Held.{Held as TheHeld};
 ghost use Rattle.cr_expand.specs.declared.slot.Slot.{Slot as TheSlot};
 ghost use Rattle.cr_expand.specs.Held.{all_held};
-ghost use Rattle.cr_expand.specs.Slots.{tokens};
+ghost use Rattle.cr_expand.specs.Slots.{tokens, AreSlotsKnown};
 ghost use Rattle.cr_expand.specs.Calls.{IsCallAt};
 ghost use Rattle.cr_expand.specs.HideSets.{Grows};
 ghost use Rattle.cr_expand.specs.Machines.{IsGiven, IsPut, IsSameRun, IsSameElsewhere, IsPredefinedUse, IsClosedAt, IsEntered, IsCallKnown, AreMacros, put_for_call, AreTaken, IsMiscounted};
@@ -24,7 +24,7 @@ use crate::hiding::{hidden_by_call, with_one};
 use crate::notes::Notes;
 use crate::parting::{part, token_at};
 use crate::predefined::predefined_token;
-use crate::slot::{Slot, put_front, skip};
+use crate::slot::{Slot, begin, put_front};
 use crate::subst::subst;
 use crate::turn::{Turn, turn_of};
 use crate::wanted::{counted, wanted};
@@ -211,6 +211,7 @@ impl Machine {
         requires small { count < 2 ^ 63 }
         ensures taken { (a b end : TheSlot) (inside : List TheHeld) (rest : List TheSlot) (params : List TheName) → self.old.slots.items ≡ a ∷ b ∷ (tokens inside ++ end ∷ rest) → close ≡ 2 + length inside → m.now.params ≡ Some params → count ≡ length params → IfOk result (λ r. AreTaken names.now self.new.slots.items m.now params a b inside rest (map (λ v. v.items) r.0.items) r.1) }
         ensures faults { (a b end : TheSlot) (inside : List TheHeld) (rest : List TheSlot) (params : List TheName) → self.old.slots.items ≡ a ∷ b ∷ (tokens inside ++ end ∷ rest) → close ≡ 2 + length inside → m.now.params ≡ Some params → count ≡ length params → IfErr result (λ e. IsMiscounted names.now m.now params inside h e) }
+        ensures small { IfOk result (λ r. r.1 < 2 ^ 63) }
         ensures same { IsSameElsewhere self.old self.new × (self.new.frames.items ≡ self.old.frames.items) }
     {
         let commas = most_commas(m.variadic, count, close);
@@ -230,24 +231,26 @@ impl Machine {
         m: &Macro,
         count: usize,
         close: usize,
-    ) -> Result<(), ExpandFault> {
+    ) -> Result<(), ExpandFault>
+        requires call { IsClosedAt self.old.slots.items close }
+        requires small { count < 2 ^ 63 }
+        requires tables { AreTables names.now self.old.sets }
+        requires slots { AreSlotsKnown names.now self.old.sets self.old.slots.items }
+        requires name { IsKnown names.now self.old.sets h }
+        requires known { IsMacroKnown names.now m.now }
+        ensures entered { (a b : TheSlot) (inside : List TheHeld) (closes : TheHeld) (rest : List TheSlot) (params : List TheName) → self.old.slots.items ≡ a ∷ b ∷ (tokens inside ++ Slot.Token closes ∷ rest) → close ≡ 2 + length inside → m.now.params ≡ Some params → count ≡ length params → OnOk result (IsEntered names.now self.old self.new h m.now params inside closes rest) }
+        ensures faults { (a b : TheSlot) (inside : List TheHeld) (closes : TheHeld) (rest : List TheSlot) (params : List TheName) → self.old.slots.items ≡ a ∷ b ∷ (tokens inside ++ Slot.Token closes ∷ rest) → close ≡ 2 + length inside → m.now.params ≡ Some params → count ≡ length params → IfErr result (λ e. IsMiscounted names.now m.now params inside h e) }
+        ensures same { OnOk result (IsSameRun self.old self.new × (self.new.notes.seen.items ≡ self.old.notes.seen.items) × (self.new.used ≡ self.old.used)) }
+    {
         let end = token_at(&self.slots, close);
         let (raw, more) = self.take_arguments(names, h, m, count, close)?;
-        let hide = hidden_by_call(
-            self.alloc,
-            names,
-            &mut self.sets,
-            h.hide,
-            end.hide,
-            h.token.text,
-        )?;
+        let sets = &mut self.sets;
+        let hide = hidden_by_call(self.alloc, names, sets, h.hide, end.hide, h.token.text)?;
         let expands = wanted(self.alloc, names, m, more + 1)?;
-        let _ = self.slots.pop_front();
-        let _ = self.slots.pop_front();
-        if !expands[0] {
-            skip(&mut self.slots);
-        }
         let frame = Frame::new(self.alloc, h, hide, raw, more, expands);
+        let _ = self.slots.pop_front();
+        let _ = self.slots.pop_front();
+        begin(&mut self.slots, frame.is_wanted());
         self.frames.push(frame)?;
         Ok(())
     }
@@ -293,9 +296,8 @@ impl Machine {
             self.complete(names, macros, &frame)?;
             return Ok(Some(ExpStep::More));
         }
-        if !frame.begin_next() {
-            skip(&mut self.slots);
-        }
+        frame.begin_next();
+        begin(&mut self.slots, frame.is_wanted());
         self.frames.push(frame)?;
         Ok(None)
     }

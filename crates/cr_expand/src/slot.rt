@@ -1,6 +1,6 @@
 //! What is left to be expanded, piece by piece.
 ghost use Rattle.std.specs.Prelude.{◌≡◌, ◌++◌, OnOk};
-ghost use Rattle.cr_expand.specs.Slots.{tokens, from_end};
+ghost use Rattle.cr_expand.specs.Slots.{tokens, from_end, begun};
 
 use crate::held::Held;
 use cr_base::OutOfMemory;
@@ -23,11 +23,20 @@ pub fn put_front(slots: &mut VecDeque<Slot>, list: &[Held]) -> Result<(), OutOfM
     Ok(())
 }
 
-/// Drops the tokens before the first end.
-pub fn skip(slots: &mut VecDeque<Slot>)
+// Drops the tokens before the first end.
+fn skip(slots: &mut VecDeque<Slot>)
     ensures { slots.new.items ≡ from_end slots.old.items }
 {
     while let Some(Slot::Token(_)) = slots.front() {
         let _ = slots.pop_front();
+    }
+}
+
+/// Drops the tokens before the first end, where the list isn't wanted.
+pub fn begin(slots: &mut VecDeque<Slot>, wanted: bool)
+    ensures { slots.new.items ≡ begun wanted slots.old.items }
+{
+    if !wanted {
+        skip(slots);
     }
 }
