@@ -24,7 +24,7 @@ use Rattle.cr_macros.specs.Tokens.{Text, Token, token_of, MacroText, Event, Rule
 use Rattle.cr_macros.specs.Definition.{text_of}
 use Rattle.cr_macros.specs.MacroTables.{Macros, macro_named, macro_text, table_of}
 use Rattle.cr_expand.specs.HideSets.{Sets, Grows}
-use Rattle.cr_expand.specs.Held.{held, all_held, all_args, hidden, IsKnown, AreKnown, IsNamed, AreTables, watch_of, noted, Watch}
+use Rattle.cr_expand.specs.Held.{held, all_held, all_args, hidden, IsKnown, AreKnown, IsNamed, AreTables, Faults, watch_of, noted, Watch}
 use Rattle.cr_expand.specs.Frames.{Call}
 use Rattle.cr_expand.specs.Running.{Waiting, before, goes_on, leads, put_for}
 use Rattle.cr_expand.specs.Slots.{pieces, tokens, ends, ended, begun, AreSlotsKnown}
@@ -62,14 +62,18 @@ abbrev pub still : List Text → Macros → Machine → List Token → Answer (L
 still names macros m more =
     goes_on (table_of names macros (text_of names m.file)) (waiting names macros m.sets m.frames.items) (pieces names m.sets m.slots.items ++ before more []) (LIMIT - m.used)
 
--- The tables hold what the call is made of; it is wanted where its macro takes it expanded.
-pub record IsCallKnown (names : List Text) (macros : Macros) (sets : Sets) (c : Call) : Type 0 where
+-- The tables hold what the call is made of.
+pub record IsCallHeld (names : List Text) (macros : Macros) (sets : Sets) (c : Call) : Type 0 where
   pub name : IsKnown names sets c.name
   pub hide : c.hide < length sets
   pub raw : All (AreKnown names sets) c.raw
   pub done : All (AreKnown names sets) c.done
   pub out : AreKnown names sets c.out
   pub macro : (m : Macro) × (macro_named c.name.token.text macros ≡ Some m)
+
+-- Its arguments are wanted where its macro takes them expanded.
+pub record IsCallKnown (names : List Text) (macros : Macros) (sets : Sets) (c : Call) : Type 0 where
+  pub holds : IsCallHeld names macros sets c
   pub wanted : (i : ℕ) → i ≤ length c.done + c.more → slice_index_or c.wanted i false ≡ is_wanted (means_of names (macro_named c.name.token.text macros)) i
 
 -- The tables hold what the machine is made of, and each argument of a call that waits has its end.
@@ -163,7 +167,11 @@ pub record IsEntered (names : List Text) (old now : Machine) (h : Held) (m : Mac
   pub sets_grow : Grows old.sets now.sets
   pub tables : AreTables names now.sets
 
--- the next argument is begun
+-- an argument is expanded
+abbrev pub done_call : Call → Call
+done_call c = record c { done = c.done ++ c.out ∷ []; out = [] }
+
+-- and the next one is begun
 abbrev pub next_call : Call → Call
 next_call c = record c { done = c.done ++ c.out ∷ []; out = []; more = c.more - 1 }
 
@@ -190,3 +198,22 @@ pub record AreTaken (names : List Text) (now : List Slot) (m : Macro) (params : 
 abbrev pub IsMiscounted : List Text → Macro → List Name → List Held → Held → ExpandFault → Type 0
 IsMiscounted names m params inside h e =
     (e ≡ fault.OutOfMemory) ⊎ ((e ≡ fault.ArgCount h.token.site) × ((sets : Sets) → arguments (map (text_of names) params) m.variadic (all_held names sets inside) ≡ None))
+
+-- An argument ended: the next one was begun, or what stands for the call was put in.
+abbrev pub IsArgumentEnd : List Text → List Text → Macros → Machine → Machine → List Slot → Option ExpStep → Type 0
+IsArgumentEnd names new macros old now rest None =
+    (cs : List Call) × (c : Call) × (old.frames.items ≡ cs ++ c ∷ []) × (0 < c.more) × (now.frames.items ≡ cs ++ next_call c ∷ [])
+    × (now.slots.items ≡ begun (slice_index_or c.wanted (length c.done + 1) false) rest)
+    × (now.sets ≡ old.sets) × (now.notes.seen.items ≡ old.notes.seen.items) × (now.used ≡ old.used) × (new ≡ names)
+IsArgumentEnd names new macros old now rest (Some s) =
+    (cs : List Call) × (c : Call) × (old.frames.items ≡ cs ++ c ∷ []) × (c.more ≡ 0) × (now.frames.items ≡ cs)
+    × IsPut names new old now (put_for_call names macros old.sets (done_call c)) rest × (s ≡ step.More)
+
+-- Why it didn't.
+abbrev pub IsArgumentFault : List Text → Macros → Machine → ExpandFault → Type 0
+IsArgumentFault names macros old e =
+    (e ≡ fault.OutOfMemory)
+    ⊎ ((cs : List Call) × (c : Call) × (old.frames.items ≡ cs ++ c ∷ []) × (c.more ≡ 0) × Faults (put_for_call names macros old.sets (done_call c) (LIMIT - old.used)) e)
+
+abbrev pub BeginsWithEnd : List Slot → Type 0
+BeginsWithEnd slots = (rest : List Slot) × (slots ≡ slot.End ∷ rest)

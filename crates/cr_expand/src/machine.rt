@@ -16,7 +16,7 @@ ghost use Rattle.cr_expand.specs.Held.{all_held};
 ghost use Rattle.cr_expand.specs.Slots.{tokens, AreSlotsKnown};
 ghost use Rattle.cr_expand.specs.Calls.{IsCallAt};
 ghost use Rattle.cr_expand.specs.HideSets.{Grows};
-ghost use Rattle.cr_expand.specs.Machines.{IsGiven, IsPut, IsSameRun, IsSameElsewhere, IsPredefinedUse, IsClosedAt, IsEntered, IsCallKnown, AreMacros, put_for_call, AreTaken, IsMiscounted};
+ghost use Rattle.cr_expand.specs.Machines.{IsGiven, IsPut, IsSameRun, IsSameElsewhere, IsPredefinedUse, IsClosedAt, IsEntered, IsCallHeld, IsMachine, IsArgumentEnd, IsArgumentFault, BeginsWithEnd, AreMacros, put_for_call, AreTaken, IsMiscounted};
 use crate::frame::Frame;
 use crate::held::Held;
 use crate::hide_sets::{HideSet, HideSets};
@@ -265,7 +265,7 @@ impl Machine {
         requires room { length names.old < 2 ^ 31 }
         requires macros { AreMacros names.old macros.now }
         requires tables { AreTables names.old self.old.sets }
-        requires call { IsCallKnown names.old macros.now self.old.sets frame.now }
+        requires call { IsCallHeld names.old macros.now self.old.sets frame.now }
         requires watched { IsNamed names.old self.old.notes.from × IsNamed names.old self.old.notes.to }
         requires limit { self.old.used ≤ LIMIT }
         ensures put { OnOk result (IsPut names.old names.new self.old self.new (put_for_call names.old macros.now self.old.sets frame.now) self.old.slots.items) }
@@ -286,7 +286,15 @@ impl Machine {
         &mut self,
         names: &mut NameTable,
         macros: &MacroTable,
-    ) -> Result<Option<ExpStep>, ExpandFault> {
+    ) -> Result<Option<ExpStep>, ExpandFault>
+        requires room { length names.old < 2 ^ 31 }
+        requires macros { AreMacros names.old macros.now }
+        requires machine { IsMachine names.old macros.now self.old }
+        requires starts { BeginsWithEnd self.old.slots.items }
+        ensures ended { (rest : List TheSlot) → self.old.slots.items ≡ Slot.End ∷ rest → IfOk result (λ o. IsArgumentEnd names.old names.new macros.now self.old self.new rest o) }
+        ensures faults { IfErr result (λ e. IsArgumentFault names.old macros.now self.old e) }
+        ensures same { OnOk result (IsSameRun self.old self.new) }
+    {
         let _ = self.slots.pop_front();
         let Some(mut frame) = self.frames.pop() else {
             unreachable!()
