@@ -26,3 +26,5 @@ pub mod HiddenSets
 pub mod Looked
 pub mod Counting
 pub mod Entries
+pub mod KeptMachine
+pub mod Steps

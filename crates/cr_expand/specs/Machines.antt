@@ -50,7 +50,7 @@ waiting_of names macros sets c = record {
 
 -- calls, of which the innermost is the last, with their texts, the innermost first
 abbrev pub waiting : List Text → Macros → Sets → List Call → List Waiting
-waiting names macros sets calls = map (waiting_of names macros sets) (reverse calls)
+waiting names macros sets calls = reverse (map {A = Call} (waiting_of names macros sets) calls)
 
 -- how many ends the calls wait for
 abbrev pub total : List Call → ℕ
@@ -217,3 +217,15 @@ IsArgumentFault names macros old e =
 
 abbrev pub BeginsWithEnd : List Slot → Type 0
 BeginsWithEnd slots = (rest : List Slot) × (slots ≡ slot.End ∷ rest)
+
+-- A step of the machine: a use of a rule, with the token of the result that it gives; or nothing is changed.
+abbrev pub IsStep : List Text → List Text → Macros → Machine → Machine → List Token → ExpStep → Type 0
+IsStep names new macros old now more (step.Out t) = (hide : List Text) × IsUse names new macros old now more (token_of new hide t ∷ [])
+IsStep names new macros old now more step.More = IsUse names new macros old now more []
+IsStep names new macros old now more step.Hungry = (new ≡ names) × (now ≡ old)
+IsStep names new macros old now more step.End = (new ≡ names) × (now ≡ old)
+
+-- A call was entered or an argument ended, by which nothing is given; or a step was made.
+abbrev pub IsTurnStep : List Text → List Text → Macros → Machine → Machine → List Token → Option ExpStep → Type 0
+IsTurnStep names new macros old now more None = (still names macros old more ≡ still new macros now more) × (now.notes.seen.items ≡ old.notes.seen.items)
+IsTurnStep names new macros old now more (Some s) = IsStep names new macros old now more s
