@@ -28,3 +28,5 @@ pub mod Counting
 pub mod Entries
 pub mod KeptMachine
 pub mod Steps
+pub mod Calling
+pub mod Arguments

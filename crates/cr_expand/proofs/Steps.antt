@@ -31,11 +31,11 @@ use Rattle.cr_expand.proofs.Sets.{grows_same}
 use Rattle.cr_expand.proofs.Going.{with_out, predefined_events, outer_keeps, inner_keeps, outer_predefined, inner_predefined, goes_object, leads_none, then_same}
 use Rattle.cr_expand.proofs.KeptMachine.{table_kept, all_waiting_kept, waiting_of_kept, pieces_kept}
 
-all_front : {A : Type 0} (P : A → Type 0) (xs : List A) (x : A) → All P (xs ++ x ∷ []) → All P xs
+pub all_front : {A : Type 0} (P : A → Type 0) (xs : List A) (x : A) → All P (xs ++ x ∷ []) → All P xs
 all_front P [] x h = All-nil P
 all_front P (y ∷ xs) x h = All-cons P y xs (All-head P y (xs ++ x ∷ []) h) (all_front P xs x (All-tail P y (xs ++ x ∷ []) h))
 
-all_last : {A : Type 0} (P : A → Type 0) (xs : List A) (x : A) → All P (xs ++ x ∷ []) → P x
+pub all_last : {A : Type 0} (P : A → Type 0) (xs : List A) (x : A) → All P (xs ++ x ∷ []) → P x
 all_last P [] x h = All-head P x [] h
 all_last P (y ∷ xs) x h = all_last P xs x (All-tail P y (xs ++ x ∷ []) h)
 
@@ -70,7 +70,7 @@ module _ (names new : List Text) (macros : Macros) (old now : Machine) (more : L
   abbrev pub table_of_old : Table
   table_of_old = table_of names macros (text_of names old.file)
 
-  calls_held : All (IsCallHeld names macros old.sets) old.frames.items
+  pub calls_held : All (IsCallHeld names macros old.sets) old.frames.items
   calls_held = All-weaker (IsCallKnown names macros old.sets) (IsCallHeld names macros old.sets) (λ c h. h.holds) old.frames.items mach.calls
 
   table_now : table_of new macros (text_of new now.file) ≡ table_of_old
@@ -91,10 +91,10 @@ module _ (names new : List Text) (macros : Macros) (old now : Machine) (more : L
   front_kept slots h = ap (λ ps. ps ++ before more []) (pieces_kept names new g macros old.sets now.sets k mach.tables.named known slots h)
 
   -- the head at the front
-  front_old : (s : Slot) (rest : List Slot) → old.slots.items ≡ s ∷ rest → front names old.sets old.slots.items more ≡ piece names old.sets s ∷ front names old.sets rest more
+  pub front_old : (s : Slot) (rest : List Slot) → old.slots.items ≡ s ∷ rest → front names old.sets old.slots.items more ≡ piece names old.sets s ∷ front names old.sets rest more
   front_old s rest e = ap (λ l. front names old.sets l more) e
 
-  rest_known : (s : Slot) (rest : List Slot) → old.slots.items ≡ s ∷ rest → AreSlotsKnown names old.sets rest
+  pub rest_known : (s : Slot) (rest : List Slot) → old.slots.items ≡ s ∷ rest → AreSlotsKnown names old.sets rest
   rest_known s rest e = All-tail (IsSlotKnown names old.sets) s rest (subst (AreSlotsKnown names old.sets) e mach.slots)
 
   front_now : (s : Slot) (rest : List Slot) → old.slots.items ≡ s ∷ rest → now.slots.items ≡ drop 1 old.slots.items → front new now.sets now.slots.items more ≡ front names old.sets rest more
@@ -111,11 +111,11 @@ module _ (names new : List Text) (macros : Macros) (old now : Machine) (more : L
         ∙ ap (λ w. with_out w t) (waiting_of_kept names new g macros old.sets now.sets k mach.tables.named known c (all_last (IsCallHeld names macros old.sets) cs c all)))
       ∙ ap (λ ws. with_out (waiting_of names macros old.sets c) t ∷ ws) (waiting_kept cs (all_front (IsCallHeld names macros old.sets) cs c all))
 
-  calls_old : (cs : List Call) (c : Call) → old.frames.items ≡ cs ++ c ∷ [] → waiting names macros old.sets old.frames.items ≡ waiting_of names macros old.sets c ∷ waiting names macros old.sets cs
+  pub calls_old : (cs : List Call) (c : Call) → old.frames.items ≡ cs ++ c ∷ [] → waiting names macros old.sets old.frames.items ≡ waiting_of names macros old.sets c ∷ waiting names macros old.sets cs
   calls_old cs c e = ap (waiting names macros old.sets) e ∙ waiting_more names macros old.sets cs c
 
   -- a token that stays is given
-  keeps : (law : FollowsTheRules) (h : Held) (rest : List Slot) (s : ExpStep) (t : Token) → old.slots.items ≡ slot.Token h ∷ rest → use_of table_of_old (held names old.sets h) (current (front names old.sets rest more)) ≡ Keep
+  pub keeps : (law : FollowsTheRules) (h : Held) (rest : List Slot) (s : ExpStep) (t : Token) → old.slots.items ≡ slot.Token h ∷ rest → use_of table_of_old (held names old.sets h) (current (front names old.sets rest more)) ≡ Keep
       → now.slots.items ≡ drop 1 old.slots.items → LIMIT - now.used ≡ LIMIT - old.used → now.notes.seen.items ≡ old.notes.seen.items → held new now.sets h ≡ held names old.sets h
       → IsGiven old.frames.items h now.frames.items s → IsStep names new macros old now more s
   keeps law h rest (step.Out t) x e u d l n a i = (hidden new now.sets h.hide.0, record {
