@@ -30,3 +30,4 @@ pub mod KeptMachine
 pub mod Steps
 pub mod Calling
 pub mod Arguments
+pub mod Keeping

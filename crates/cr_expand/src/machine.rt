@@ -1,7 +1,7 @@
 //! The uses of the rules of macro expansion, one after another.
-ghost use Rattle.std.specs.Prelude.{◌≡◌, ◌<◌, ◌≤◌, ◌+◌, ◌-◌, ◌^◌, ◌*◌, ◌++◌, ◌∷◌, [], List, IfOk, IfErr, OnOk, length, map, drop, ◌⊎◌, MatchResult, if◌then◌else◌};
+ghost use Rattle.std.specs.Prelude.{◌≡◌, ◌<◌, ◌≤◌, ◌+◌, ◌-◌, ◌^◌, ◌*◌, ◌++◌, ◌∷◌, [], List, IfOk, IfErr, OnOk, length, map, drop, ◌⊎◌, MatchResult, if◌then◌else◌, true, None};
 ghost use Rattle.std.specs.List.{All};
-ghost use Rattle.cr_macros.specs.Tokens.{with_name};
+ghost use Rattle.cr_macros.specs.Tokens.{Token, with_name};
 ghost use Rattle.cr_macros.specs.MacroTables.{macro_text};
 ghost use Rattle.cr_expand.specs.Held.{held, hidden, all_args, IsKnown, AreKnown, IsNamed, AreTables, Faults};
 ghost use Rattle.cr_expand.specs.Items.{IsMacroKnown};
@@ -16,7 +16,7 @@ ghost use Rattle.cr_expand.specs.Held.{all_held};
 ghost use Rattle.cr_expand.specs.Slots.{tokens, AreSlotsKnown};
 ghost use Rattle.cr_expand.specs.Calls.{IsCallAt};
 ghost use Rattle.cr_expand.specs.HideSets.{Grows};
-ghost use Rattle.cr_expand.specs.Machines.{IsGiven, IsPut, IsSameRun, IsSameElsewhere, IsPredefinedUse, IsClosedAt, IsEntered, IsCallHeld, IsMachine, IsArgumentEnd, IsArgumentFault, BeginsWithEnd, AreMacros, put_for_call, AreTaken, IsMiscounted};
+ghost use Rattle.cr_expand.specs.Machines.{IsGiven, IsPut, IsSameRun, IsSameElsewhere, IsPredefinedUse, IsClosedAt, IsEntered, IsCallHeld, IsMachine, IsArgumentEnd, IsArgumentFault, BeginsWithEnd, AreMacros, put_for_call, AreTaken, IsMiscounted, IsTurnStep, still};
 use crate::frame::Frame;
 use crate::held::Held;
 use crate::hide_sets::{HideSet, HideSets};
@@ -29,7 +29,7 @@ use crate::subst::subst;
 use crate::turn::{Turn, turn_of};
 use crate::wanted::{counted, wanted};
 use cr_base::{Name, NameTable, PpTok, Role};
-use cr_macros::{ExpandFault, Macro, MacroTable, Predefined};
+use cr_macros::{ExpandFault, Macro, MacroTable, Predefined, expansion_follows_the_rules};
 use std::alloc::Global;
 use std::collections::VecDeque;
 
@@ -315,7 +315,18 @@ impl Machine {
         &mut self,
         names: &mut NameTable,
         macros: &MacroTable,
-    ) -> Result<Option<ExpStep>, ExpandFault> {
+    ) -> Result<Option<ExpStep>, ExpandFault>
+        requires room { length names.old < 2 ^ 31 }
+        requires macros { AreMacros names.old macros.now }
+        requires machine { IsMachine names.old macros.now self.old }
+        ensures step { (more : List Token) → (self.old.finished ≡ true → more ≡ []) → IfOk result (λ o. IsTurnStep names.old names.new macros.now self.old self.new more o) }
+        ensures faults { (more : List Token) → (self.old.finished ≡ true → more ≡ []) → IfErr result (λ e. Faults (still names.old macros.now self.old more) e) }
+        ensures machine { OnOk result (IsMachine names.new macros.now self.new) }
+        ensures grows { OnOk result (Grows names.old names.new) }
+        ensures same { OnOk result (IsSameRun self.old self.new) }
+        ensures smaller { IfOk result (λ o. o ≡ None → length self.new.slots.items < length self.old.slots.items) }
+    {
+        expansion_follows_the_rules();
         let turn = turn_of(names, macros, &self.sets, &self.slots, self.finished);
         match turn {
             Turn::End => Ok(Some(ExpStep::End)),
