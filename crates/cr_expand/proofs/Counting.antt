@@ -181,6 +181,7 @@ module _ (names : List Text) (m : Macro) (params : List Name) (a b : Slot) (insi
     raw_are = counted_lists (length params) m.variadic lists raw c;
     args = λ sets. by_count e sets ∙ ap (option_map (all_args names sets)) (sym c);
     among = parts.2;
+    size = parts.3;
   }
 
   pub miscounted : n ≡ (if m.variadic then length params else length inside) → None ≡ counted (length params) m.variadic lists → (sets : Sets) → arguments (map (text_of names) params) m.variadic (all_held names sets inside) ≡ None

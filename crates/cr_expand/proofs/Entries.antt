@@ -62,6 +62,7 @@ entered names old now h m params a b inside closes end rest taken raw more hide 
   raw = subst (λ r. AreArguments r t.lists) (sym (ap (λ x. x.raw) c)) t.raw_are;
   args = t.args old.sets ∙ ap (λ x. Some (all_args names old.sets x.raw)) (sym c);
   among = t.among;
+  size = t.size;
   hide = ap (λ x. hidden names now.sets x.hide) c ∙ p.text ∙ ap (λ x. with_name (text_of names h.token.text) (both (hidden names old.sets h.hide.0) (hidden names old.sets x.hide.0))) e;
   hide_known = subst (λ x. x.hide < length now.sets) (sym c) p.known;
   wanted = λ i l. ap (λ x. slice_index_or x.wanted i false) c ∙ w i (let k = ap (λ x. x.more) c in omega (arith, k, l));

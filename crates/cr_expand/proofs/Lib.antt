@@ -31,3 +31,5 @@ pub mod Steps
 pub mod Calling
 pub mod Arguments
 pub mod Keeping
+pub mod Nexts
+pub mod TurnSteps

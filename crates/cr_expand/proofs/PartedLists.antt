@@ -189,7 +189,9 @@ module _ (names : List Text) (n : ℕ) (slots : List Slot) (i : ℕ) (lists : Li
         ∙ ap (λ l. a ∷ b ∷ l) (set_mid (ended lists ++ tokens list) end slot.End rest
           ∙ sym (append_assoc (ended lists ++ tokens list) (slot.End ∷ []) rest) ∙ ap (λ l. l ++ rest) (append_assoc (ended lists) (tokens list) (slot.End ∷ []) ∙ sym (ended_more lists list))),
        parting_ends names n inside lists list commas depth (subst (λ l. IsParting names n l lists list commas depth) (sym (p ∙ append-nil before)) t),
-       All-append (All (IsAmong inside)) lists (list ∷ []) u (All-cons (All (IsAmong inside)) list [] v (All-nil (All (IsAmong inside)))))
+       All-append (All (IsAmong inside)) lists (list ∷ []) u (All-cons (All (IsAmong inside)) list [] v (All-nil (All (IsAmong inside)))),
+       ap length (ended_more lists list ∙ sym (append_assoc (ended lists) (tokens list) (slot.End ∷ []))) ∙ length-append (ended lists ++ tokens list) (slot.End ∷ [])
+         ∙ (let l = ap length p in let m = length-append before [] in let x : length (ended lists ++ tokens list) + 1 ≡ suc (length inside) = omega (arith, r, l, m) in x))
 
   -- the place is one of the slots
   pub here_within : i ≤ close → Here → i < length slots

@@ -56,4 +56,4 @@ IsAmong inside h = (k : ℕ) × (slice_get inside k ≡ Some h)
 -- The tokens inside are parted by n commas at most, and each list stands with its end.
 abbrev pub ArePartedAt : List Text → ℕ → Slot → Slot → List Held → List Slot → List (List Held) → List Slot → Type 0
 ArePartedAt names n a b inside rest lists slots =
-    (slots ≡ a ∷ b ∷ (ended lists ++ rest)) × ((sets : Sets) → all_args names sets lists ≡ parted n 0 (all_held names sets inside)) × All (All (IsAmong inside)) lists
+    (slots ≡ a ∷ b ∷ (ended lists ++ rest)) × ((sets : Sets) → all_args names sets lists ≡ parted n 0 (all_held names sets inside)) × All (All (IsAmong inside)) lists × (length (ended lists) ≡ suc (length inside))

@@ -160,6 +160,7 @@ pub record IsEntered (names : List Text) (old now : Machine) (h : Held) (m : Mac
   pub raw : AreArguments call.raw lists
   pub args : arguments (map (text_of names) params) m.variadic (all_held names old.sets inside) ≡ Some (all_args names old.sets call.raw)
   pub among : All (All (IsAmong inside)) lists
+  pub size : length (ended lists) ≡ suc (length inside)
   pub hide : hidden names now.sets call.hide ≡ with_name (text_of names h.token.text) (both (hidden names old.sets h.hide.0) (hidden names old.sets closes.hide.0))
   pub hide_known : call.hide < length now.sets
   pub wanted : (i : ℕ) → i ≤ call.more → slice_index_or call.wanted i false ≡ is_wanted (macro_text names m) i
@@ -193,6 +194,7 @@ pub record AreTaken (names : List Text) (now : List Slot) (m : Macro) (params : 
   pub raw_are : AreArguments raw lists
   pub args : (sets : Sets) → arguments (map (text_of names) params) m.variadic (all_held names sets inside) ≡ Some (all_args names sets raw)
   pub among : All (All (IsAmong inside)) lists
+  pub size : length (ended lists) ≡ suc (length inside)
 
 -- Why the arguments aren't taken.
 abbrev pub IsMiscounted : List Text → Macro → List Name → List Held → Held → ExpandFault → Type 0

@@ -207,8 +207,7 @@ impl Machine {
         count: usize,
         close: usize,
     ) -> Result<(Vec<Vec<Held>>, usize), ExpandFault>
-        requires call { IsCallAt self.old.slots.items close }
-        requires small { count < 2 ^ 63 }
+        requires { IsCallAt self.old.slots.items close }
         ensures taken { (a b end : TheSlot) (inside : List TheHeld) (rest : List TheSlot) (params : List TheName) → self.old.slots.items ≡ a ∷ b ∷ (tokens inside ++ end ∷ rest) → close ≡ 2 + length inside → m.now.params ≡ Some params → count ≡ length params → IfOk result (λ r. AreTaken names.now self.new.slots.items m.now params a b inside rest (map (λ v. v.items) r.0.items) r.1) }
         ensures faults { (a b end : TheSlot) (inside : List TheHeld) (rest : List TheSlot) (params : List TheName) → self.old.slots.items ≡ a ∷ b ∷ (tokens inside ++ end ∷ rest) → close ≡ 2 + length inside → m.now.params ≡ Some params → count ≡ length params → IfErr result (λ e. IsMiscounted names.now m.now params inside h e) }
         ensures small { IfOk result (λ r. r.1 < 2 ^ 63) }
@@ -233,7 +232,6 @@ impl Machine {
         close: usize,
     ) -> Result<(), ExpandFault>
         requires call { IsClosedAt self.old.slots.items close }
-        requires small { count < 2 ^ 63 }
         requires tables { AreTables names.now self.old.sets }
         requires slots { AreSlotsKnown names.now self.old.sets self.old.slots.items }
         requires name { IsKnown names.now self.old.sets h }

@@ -1,5 +1,5 @@
 //! Which arguments of a call are wanted, and in what number.
-ghost use Rattle.std.specs.Prelude.{◌≡◌, ◌<◌, ◌^◌, IfOk, List, ℕ, map, option_map, slice_index_or, vec_len, true, false};
+ghost use Rattle.std.specs.Prelude.{◌≡◌, ◌<◌, IfOk, List, ℕ, map, option_map, slice_index_or, vec_len, true, false};
 ghost use Rattle.std.specs.List.{list_any};
 ghost use Rattle.cr_base.specs.NameTable.{IsDistinct};
 ghost use Rattle.cr_macros.specs.Substitution as spec;
@@ -84,10 +84,9 @@ fn counted_variadic(
     count: usize,
     mut lists: Vec<Vec<Held>>,
 ) -> Result<Option<Vec<Vec<Held>>>, OutOfMemory>
-    requires { count < 2 ^ 63 }
     ensures { IfOk result (λ args. option_map (λ v. map (λ l. l.items) v.items) args ≡ spec_counted count true (map (λ v. v.items) lists.items)) }
 {
-    if lists.len() == count + 1 {
+    if lists.len() > count && lists.len() - count == 1 {
         return Ok(Some(lists));
     }
     if lists.len() == count {
@@ -105,7 +104,6 @@ pub fn counted(
     variadic: bool,
     lists: Vec<Vec<Held>>,
 ) -> Result<Option<Vec<Vec<Held>>>, OutOfMemory>
-    requires { count < 2 ^ 63 }
     ensures { IfOk result (λ args. option_map (λ v. map (λ l. l.items) v.items) args ≡ spec_counted count variadic (map (λ v. v.items) lists.items)) }
 {
     if variadic {

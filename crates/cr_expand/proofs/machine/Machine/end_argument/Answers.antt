@@ -3,7 +3,7 @@ use Rattle.std.specs.Prelude.{nat_lt}
 use Rattle.std.proofs.lemmas.Bool.Decides.{nat_tests}
 use Rattle.cr_expand.specs.Machines.{put_for_call}
 use Rattle.cr_expand.proofs.Sets.{grows_same}
-use Rattle.cr_expand.proofs.Arguments.{wrong_use}
+use Rattle.cr_expand.proofs.Nexts.{next_end}
 use Rattle.cr_expand.proofs.Puttings.{put_again}
 use Rattle.cr_expand.proofs.machine.Machine.end_argument.Goals as goal
 
