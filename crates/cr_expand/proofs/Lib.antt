@@ -33,3 +33,5 @@ pub mod Arguments
 pub mod Keeping
 pub mod Nexts
 pub mod TurnSteps
+pub mod Silent
+pub mod Wants

@@ -16,10 +16,11 @@ use Rattle.cr_macros.specs.Definition.{text_of}
 use Rattle.cr_macros.specs.MacroTables.{Macros, macro_named, macro_text, table_of}
 use Rattle.cr_expand.specs.HideSets.{Sets}
 use Rattle.cr_expand.specs.Held.{held, all_held}
-use Rattle.cr_expand.specs.Running.{Piece, Stands, Ends, current, before}
+use Rattle.cr_expand.specs.Running.{Piece, Stands, Ends, current, before, is_open, wants_more}
 use Rattle.cr_expand.specs.Slots.{piece, pieces, tokens}
 use Rattle.cr_expand.specs.Calls.{IsClosed}
-use Rattle.cr_expand.specs.Turns.{list_of, IsUsed, IsCallUse, IsTurn, IsTurnOf, IsNext}
+use Rattle.cr_expand.specs.Slots.{ends}
+use Rattle.cr_expand.specs.Turns.{list_of, IsUsed, IsCallUse, IsTurn, IsTurnOf, IsNext, IsWanting}
 
 -- tokens before slots are tokens before their list
 pub list_tokens : (names : List Text) (sets : Sets) (hs : List Held) (rest : List Slot) (more : List Token) → list_of names sets (tokens hs ++ rest) more ≡ all_held names sets hs ++ list_of names sets rest more
@@ -133,3 +134,38 @@ pub next_token : (names : List Text) (sets : Sets) (macros : Macros) (file : Tex
     → IsTurn names sets file slots more (use_of (table_of names macros file) (held names sets h)) t → IsTurnOf macros h t → IsNext names sets macros file slots more t
 next_token names sets macros file slots h rest more t e k o =
     subst (λ s. IsNext names sets macros file s more t) (sym e) (subst (λ s. IsTurn names sets file s more (use_of (table_of names macros file) (held names sets h)) t) e k, o)
+
+ends_tokens : (hs : List Held) → ends (tokens hs) ≡ 0
+ends_tokens [] = refl
+ends_tokens (h ∷ hs) = ends_tokens hs
+
+-- a call whose `)` isn't there yet
+pub open_wanting : (names : List Text) (sets : Sets) (h : Held) (m : Macro) (params : List Name) (finished : Bool) (slots rest : List Slot) (opens : Held) → slots ≡ slot.Token h ∷ slot.Token opens ∷ rest → is_mark (codes "(") (held names sets opens) ≡ true
+    → finished ≡ false → IsClosed names sets slots close.NotYet → IsWanting names sets finished slots (λ x. call_of (held names sets x) (macro_text names m) (map (text_of names) params)) turn.Hungry
+unfolding call_open
+open_wanting names sets h m params finished slots rest opens e g n k =
+    subst (λ s. IsWanting names sets finished s (λ x. call_of (held names sets x) (macro_text names m) (map (text_of names) params)) turn.Hungry) (sym e)
+    (n, no_ends k, ap is_open (call_open names sets h m params slots rest opens [] e g refl k).2) where
+  no_ends : IsClosed names sets slots close.NotYet → ends rest ≡ 0
+  no_ends (a, b, inside, s, c) =
+      let both = same_slots names sets h m params (slot.Token opens) a b rest (tokens inside) [] (sym e ∙ s) in
+      ap ends both.2 ∙ ends_tokens inside
+
+wants_by : (f g : List Token → Use) (t : Token) (l : List Token) → ((rest : List Token) → g rest ≡ f rest) → wants_more f t l ≡ true → wants_more g t l ≡ true
+wants_by f g t [] e k = ap is_open (e _) ∙ k
+wants_by f g t (u ∷ l) e k = ap is_open (e (u ∷ l)) ∙ k
+
+-- the same is wanted by the same uses of the head
+pub wanting_by : (names : List Text) (sets : Sets) (finished : Bool) (slots rest : List Slot) (h : Held) (f g : Held → List Token → Use) (t : Turn) → slots ≡ slot.Token h ∷ rest → ((l : List Token) → g h l ≡ f h l)
+    → IsWanting names sets finished slots f t → IsWanting names sets finished slots g t
+wanting_by names sets finished slots rest h f g t e x k =
+    subst (λ s. IsWanting names sets finished s g t) (sym e) (by t (subst (λ s. IsWanting names sets finished s f t) e k)) where
+  by : (t : Turn) → IsWanting names sets finished (slot.Token h ∷ rest) f t → IsWanting names sets finished (slot.Token h ∷ rest) g t
+  by turn.Hungry k = (k.0, k.1, wants_by (f h) (g h) (held names sets h) (list_of names sets rest []) x k.2)
+  by turn.End k = k
+  by turn.ArgumentEnd k = tt
+  by (turn.Stays y) k = tt
+  by (turn.Predefined y p) k = tt
+  by (turn.Object y m) k = tt
+  by (turn.Call y m c n) k = tt
+  by (turn.Unclosed site) k = tt

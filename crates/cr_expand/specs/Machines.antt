@@ -1,5 +1,5 @@
 -- What a machine of macro expansion holds, and what it still gives.
-use Rattle.std.specs.Prelude.{◌≡◌, ℕ, zero, suc, ◌+◌, ◌-◌, ◌<◌, ◌≤◌, Bool, true, false, List, [], ◌∷◌, ◌++◌, length, map, reverse, slice_index_or, Option, Some, None, ◌⊎◌}
+use Rattle.std.specs.Prelude.{◌≡◌, ℕ, suc, ◌+◌, ◌-◌, ◌<◌, ◌≤◌, Bool, true, false, List, [], ◌∷◌, ◌++◌, length, map, reverse, slice_index_or, Option, Some, None, ◌⊎◌}
 use Rattle.std.specs.List.{All}
 use Rattle.cr_base.specs.declared.token.Name.{Name}
 use Rattle.cr_base.specs.declared.token.PpTok.{PpTok}
@@ -26,7 +26,7 @@ use Rattle.cr_macros.specs.MacroTables.{Macros, macro_named, macro_text, table_o
 use Rattle.cr_expand.specs.HideSets.{Sets, Grows}
 use Rattle.cr_expand.specs.Held.{held, all_held, all_args, hidden, IsKnown, AreKnown, IsNamed, AreTables, Faults, watch_of, noted, Watch}
 use Rattle.cr_expand.specs.Frames.{Call}
-use Rattle.cr_expand.specs.Running.{Waiting, before, goes_on, leads, put_for}
+use Rattle.cr_expand.specs.Running.{Waiting, current, before, goes_on, leads, put_for, needs_more}
 use Rattle.cr_expand.specs.Slots.{pieces, tokens, ends, ended, begun, AreSlotsKnown}
 use Rattle.cr_expand.specs.Wanted.{is_wanted}
 use Rattle.cr_expand.specs.Calls.{IsAmong}
@@ -220,14 +220,29 @@ IsArgumentFault names macros old e =
 abbrev pub BeginsWithEnd : List Slot → Type 0
 BeginsWithEnd slots = (rest : List Slot) × (slots ≡ slot.End ∷ rest)
 
--- A step of the machine: a use of a rule, with the token of the result that it gives; or nothing is changed.
+-- A step of the machine: a use of a rule, with the token of the result that it gives. Where a token is wanted nothing is
+-- changed; at the end nothing is left.
 abbrev pub IsStep : List Text → List Text → Macros → Machine → Machine → List Token → ExpStep → Type 0
 IsStep names new macros old now more (step.Out t) = (hide : List Text) × IsUse names new macros old now more (token_of new hide t ∷ [])
 IsStep names new macros old now more step.More = IsUse names new macros old now more []
 IsStep names new macros old now more step.Hungry = (new ≡ names) × (now ≡ old)
-IsStep names new macros old now more step.End = (new ≡ names) × (now ≡ old)
+IsStep names new macros old now more step.End = (new ≡ names) × (now ≡ old) × (still names macros old more ≡ Gave [] (LIMIT - old.used) [])
 
 -- A call was entered or an argument ended, by which nothing is given; or a step was made.
 abbrev pub IsTurnStep : List Text → List Text → Macros → Machine → Machine → List Token → Option ExpStep → Type 0
 IsTurnStep names new macros old now more None = (still names macros old more ≡ still new macros now more) × (now.notes.seen.items ≡ old.notes.seen.items)
 IsTurnStep names new macros old now more (Some s) = IsStep names new macros old now more s
+
+-- A token is wanted only where no call waits, no more were said to be the last, and the next use can't be told without it; the
+-- end is only where all is used.
+abbrev pub IsWantedAt : List Text → Macros → Machine → ExpStep → Type 0
+IsWantedAt names macros m (step.Out t) = Unit {0}
+IsWantedAt names macros m step.More = Unit {0}
+IsWantedAt names macros m step.Hungry =
+    (m.finished ≡ false) × (m.frames.items ≡ []) × (needs_more (table_of names macros (text_of names m.file)) (current (pieces names m.sets m.slots.items)) ≡ true)
+IsWantedAt names macros m step.End = (m.finished ≡ true) × (m.frames.items ≡ []) × (m.slots.items ≡ [])
+
+-- the same at a turn; a turn that makes no step leaves a call that waits
+abbrev pub IsTurnWanted : List Text → List Text → Macros → Machine → Machine → Option ExpStep → Type 0
+IsTurnWanted names new macros old now None = (0 < ends now.slots.items) × (new ≡ names)
+IsTurnWanted names new macros old now (Some s) = IsWantedAt names macros old s

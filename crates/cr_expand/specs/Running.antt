@@ -1,6 +1,7 @@
 -- What a machine of macro expansion still gives: the calls that wait for their arguments, and the pieces that are left.
-use Rattle.std.specs.Prelude.{ℕ, zero, suc, ◌+◌, Bool, true, false, if◌then◌else◌, List, [], ◌∷◌, ◌++◌, length}
-use Rattle.cr_macros.specs.Tokens.{Text, Token, MacroText, Event, Cause, OpenCall, Answer, Gave, Stopped, Work, ◌>>=◌, is_mark, give}
+use Rattle.std.specs.Prelude.{ℕ, zero, suc, ◌+◌, Bool, true, false, if◌then◌else◌, List, [], ◌∷◌, ◌++◌, length, codes}
+use Rattle.cr_base.specs.declared.token.PpKind.TheVariants.{Punct}
+use Rattle.cr_macros.specs.Tokens.{Text, Token, MacroText, Event, Cause, ArgCount, OpenCall, BadPaste, Over, Answer, Gave, Stopped, Work, ◌>>=◌, is_mark, give}
 use Rattle.cr_macros.specs.Substitution.{Args, body_items, subst}
 use Rattle.cr_macros.specs.Expansion.{Table, expand, expanded, put_in, Use, Keep, Predefined, Object, Call, Wrong, use_of}
 
@@ -70,3 +71,29 @@ goes_on table (w ∷ ws) ps = expand table (current ps) >>= resumes table (goes_
 abbrev pub leads : List Token → List Event → Answer (List Token) → Answer (List Token)
 leads out events (Gave ts left more) = Gave (out ++ ts) left (events ++ more)
 leads out events (Stopped cause) = Stopped cause
+
+-- the use is that of a call without its `)`
+abbrev pub is_open : Use → Bool
+is_open Keep = false
+is_open (Predefined kind text) = false
+is_open (Object m) = false
+is_open (Call m args close after) = false
+is_open (Wrong (ArgCount site)) = false
+is_open (Wrong (OpenCall site)) = true
+is_open (Wrong (BadPaste site)) = false
+is_open (Wrong Over) = false
+
+-- a `(` in the place of a token
+abbrev pub opening : Token → Token
+opening t = record t { kind = Punct; text = codes "(" }
+
+-- What a token means before a rest can't be told without more tokens: with the ones that are there it is a call without its
+-- `)`; or none are there, and it would be a call if a `(` came next.
+abbrev pub wants_more : (List Token → Use) → Token → List Token → Bool
+wants_more use_before t [] = is_open (use_before (opening t ∷ []))
+wants_more use_before t (u ∷ rest) = is_open (use_before (u ∷ rest))
+
+-- The next use of a rule on a list can't be told without more tokens (C11 6.10.3p10).
+abbrev pub needs_more : Table → List Token → Bool
+needs_more table [] = true
+needs_more table (t ∷ rest) = wants_more (use_of table t) t rest

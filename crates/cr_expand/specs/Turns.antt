@@ -1,5 +1,5 @@
 -- What comes next in an expansion, with names and hide sets by number.
-use Rattle.std.specs.Prelude.{◌≡◌, ℕ, ◌+◌, Bool, true, List, [], ◌∷◌, ◌++◌, length, map, Some}
+use Rattle.std.specs.Prelude.{◌≡◌, ℕ, ◌+◌, Bool, true, false, List, [], ◌∷◌, ◌++◌, length, map, Some}
 use Rattle.cr_base.specs.declared.token.Name.{Name}
 use Rattle.cr_macros.specs.declared.macros.Macro.{Macro}
 use Rattle.cr_expand.specs.declared.held.Held.{Held}
@@ -13,8 +13,8 @@ use Rattle.cr_macros.specs.Definition.{text_of}
 use Rattle.cr_macros.specs.MacroTables.{Macros, macro_named, macro_text, table_of}
 use Rattle.cr_expand.specs.HideSets.{Sets}
 use Rattle.cr_expand.specs.Held.{held, all_held}
-use Rattle.cr_expand.specs.Slots.{pieces, tokens}
-use Rattle.cr_expand.specs.Running.{current, before}
+use Rattle.cr_expand.specs.Slots.{pieces, tokens, ends}
+use Rattle.cr_expand.specs.Running.{current, before, wants_more}
 
 -- the list that slots begin with, where more comes behind them
 abbrev pub list_of : List Text → Sets → List Slot → List Token → List Token
@@ -67,3 +67,18 @@ IsNext names sets macros file [] more t = IsTurn names sets file [] more (λ ts.
 IsNext names sets macros file (slot.End ∷ slots) more t = IsTurn names sets file (slot.End ∷ slots) more (λ ts. Keep) t
 IsNext names sets macros file (slot.Token h ∷ slots) more t =
     IsTurn names sets file (slot.Token h ∷ slots) more (use_of (table_of names macros file) (held names sets h)) t × IsTurnOf macros h t
+
+-- More tokens are wanted only where no more were said to come, where nothing is parted, and where the head's use can't be told
+-- without them; the end is only where no more come.
+abbrev pub IsWanting : List Text → Sets → Bool → List Slot → (Held → List Token → Use) → Turn → Type 0
+IsWanting names sets finished [] use_at turn.Hungry = finished ≡ false
+IsWanting names sets finished (slot.End ∷ slots) use_at turn.Hungry = ⊥
+IsWanting names sets finished (slot.Token h ∷ slots) use_at turn.Hungry =
+    (finished ≡ false) × (ends slots ≡ 0) × (wants_more (use_at h) (held names sets h) (list_of names sets slots []) ≡ true)
+IsWanting names sets finished slots use_at turn.End = finished ≡ true
+IsWanting names sets finished slots use_at turn.ArgumentEnd = Unit {0}
+IsWanting names sets finished slots use_at (turn.Stays h) = Unit {0}
+IsWanting names sets finished slots use_at (turn.Predefined h p) = Unit {0}
+IsWanting names sets finished slots use_at (turn.Object h m) = Unit {0}
+IsWanting names sets finished slots use_at (turn.Call h m count n) = Unit {0}
+IsWanting names sets finished slots use_at (turn.Unclosed site) = Unit {0}

@@ -16,7 +16,7 @@ ghost use Rattle.cr_expand.specs.Held.{all_held};
 ghost use Rattle.cr_expand.specs.Slots.{tokens, AreSlotsKnown};
 ghost use Rattle.cr_expand.specs.Calls.{IsCallAt};
 ghost use Rattle.cr_expand.specs.HideSets.{Grows};
-ghost use Rattle.cr_expand.specs.Machines.{IsGiven, IsPut, IsSameRun, IsSameElsewhere, IsPredefinedUse, IsClosedAt, IsEntered, IsCallHeld, IsMachine, IsArgumentEnd, IsArgumentFault, BeginsWithEnd, AreMacros, put_for_call, AreTaken, IsMiscounted, IsTurnStep, still};
+ghost use Rattle.cr_expand.specs.Machines.{IsGiven, IsPut, IsSameRun, IsSameElsewhere, IsPredefinedUse, IsClosedAt, IsEntered, IsCallHeld, IsMachine, IsArgumentEnd, IsArgumentFault, BeginsWithEnd, AreMacros, put_for_call, AreTaken, IsMiscounted, IsTurnStep, IsTurnWanted, IsStep, IsWantedAt, still};
 use crate::frame::Frame;
 use crate::held::Held;
 use crate::hide_sets::{HideSet, HideSets};
@@ -318,6 +318,7 @@ impl Machine {
         requires macros { AreMacros names.old macros.now }
         requires machine { IsMachine names.old macros.now self.old }
         ensures step { (more : List Token) → (self.old.finished ≡ true → more ≡ []) → IfOk result (λ o. IsTurnStep names.old names.new macros.now self.old self.new more o) }
+        ensures wanted { IfOk result (λ o. IsTurnWanted names.old names.new macros.now self.old self.new o) }
         ensures faults { (more : List Token) → (self.old.finished ≡ true → more ≡ []) → IfErr result (λ e. Faults (still names.old macros.now self.old more) e) }
         ensures machine { OnOk result (IsMachine names.new macros.now self.new) }
         ensures grows { OnOk result (Grows names.old names.new) }
@@ -358,7 +359,17 @@ impl Machine {
         &mut self,
         names: &mut NameTable,
         macros: &MacroTable,
-    ) -> Result<ExpStep, ExpandFault> {
+    ) -> Result<ExpStep, ExpandFault>
+        requires room { length names.old < 2 ^ 31 }
+        requires macros { AreMacros names.old macros.now }
+        requires machine { IsMachine names.old macros.now self.old }
+        ensures step { (more : List Token) → (self.old.finished ≡ true → more ≡ []) → IfOk result (λ s. IsStep names.old names.new macros.now self.old self.new more s) }
+        ensures wanted { IfOk result (λ s. IsWantedAt names.old macros.now self.old s) }
+        ensures faults { (more : List Token) → (self.old.finished ≡ true → more ≡ []) → IfErr result (λ e. Faults (still names.old macros.now self.old more) e) }
+        ensures machine { OnOk result (IsMachine names.new macros.now self.new) }
+        ensures grows { OnOk result (Grows names.old names.new) }
+        ensures same { OnOk result (IsSameRun self.old self.new) }
+    {
         loop {
             if let Some(step) = self.turn(names, macros)? {
                 return Ok(step);

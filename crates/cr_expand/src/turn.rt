@@ -11,7 +11,7 @@ ghost use Rattle.cr_expand.specs.HideSets.{Sets};
 ghost use Rattle.cr_expand.specs.Held.{held, AreTables, IsKnown};
 ghost use Rattle.cr_expand.specs.Heading.{AreMacrosKnown};
 ghost use Rattle.cr_expand.specs.Slots.{AreSlotsKnown};
-ghost use Rattle.cr_expand.specs.Turns.{IsTurn, IsTurnOf, IsNext};
+ghost use Rattle.cr_expand.specs.Turns.{IsTurn, IsTurnOf, IsNext, IsWanting};
 
 use crate::closing::{Close, close_of};
 use crate::head::{Head, head_of};
@@ -52,6 +52,7 @@ fn group_turn<'a>(
     count: usize,
 ) -> Turn<'a>
     requires { 2 ≤ length slots.now.items }
+    ensures wanting { (sets : Sets) (opens : TheHeld) (rest : List TheSlot) (params : List TheName) → slots.now.items ≡ Slot.Token h ∷ Slot.Token opens ∷ rest → is_mark_text (codes "(") (held names.now sets opens) ≡ true → IsWanting names.now sets finished slots.now.items (λ x. call_of (held names.now sets x) (macro_text names.now m.now) (map (text_of names.now) params)) result }
     ensures means { (sets : Sets) (file : Text) (opens : TheHeld) (rest : List TheSlot) (params : List TheName) (more : List Token) → slots.now.items ≡ Slot.Token h ∷ Slot.Token opens ∷ rest → is_mark_text (codes "(") (held names.now sets opens) ≡ true → m.now.params ≡ Some params → count ≡ length params → (finished ≡ true → more ≡ []) → IsTurn names.now sets file slots.now.items more (call_of (held names.now sets h) (macro_text names.now m.now) (map (text_of names.now) params)) result }
     ensures head { (macros : Macros) → macro_named h.token.text macros ≡ Some m.now → IsTurnOf macros h result }
 {
@@ -77,6 +78,7 @@ fn call_turn<'a>(
     m: &'a Macro,
     count: usize,
 ) -> Turn<'a>
+    ensures wanting { (sets : Sets) (rest : List TheSlot) (params : List TheName) → slots.now.items ≡ Slot.Token h ∷ rest → IsWanting names.now sets finished slots.now.items (λ x. call_of (held names.now sets x) (macro_text names.now m.now) (map (text_of names.now) params)) result }
     ensures means { (sets : Sets) (file : Text) (rest : List TheSlot) (params : List TheName) (more : List Token) → slots.now.items ≡ Slot.Token h ∷ rest → m.now.params ≡ Some params → count ≡ length params → (finished ≡ true → more ≡ []) → IsTurn names.now sets file slots.now.items more (call_of (held names.now sets h) (macro_text names.now m.now) (map (text_of names.now) params)) result }
     ensures head { (macros : Macros) → macro_named h.token.text macros ≡ Some m.now → IsTurnOf macros h result }
 {
@@ -111,6 +113,7 @@ fn token_turn<'a>(
     requires tables { AreTables names.now sets.now }
     requires macros { AreMacrosKnown names.now macros.now }
     requires token { IsKnown names.now sets.now h }
+    ensures wanting { (file : Text) (rest : List TheSlot) → slots.now.items ≡ Slot.Token h ∷ rest → IsWanting names.now sets.now finished slots.now.items (λ x. use_of (table_of names.now macros.now file) (held names.now sets.now x)) result }
     ensures means { (file : Text) (rest : List TheSlot) (more : List Token) → slots.now.items ≡ Slot.Token h ∷ rest → (finished ≡ true → more ≡ []) → IsTurn names.now sets.now file slots.now.items more (use_of (table_of names.now macros.now file) (held names.now sets.now h)) result }
     ensures head { IsTurnOf macros.now h result }
 {
@@ -136,6 +139,7 @@ pub fn turn_of<'a>(
     requires tables { AreTables names.now sets.now }
     requires macros { AreMacrosKnown names.now macros.now }
     requires slots { AreSlotsKnown names.now sets.now slots.now.items }
+    ensures wanting { (file : Text) → IsWanting names.now sets.now finished slots.now.items (λ x. use_of (table_of names.now macros.now file) (held names.now sets.now x)) result }
     ensures means { (file : Text) (more : List Token) → (finished ≡ true → more ≡ []) → IsNext names.now sets.now macros.now file slots.now.items more result }
 {
     match slots.front() {

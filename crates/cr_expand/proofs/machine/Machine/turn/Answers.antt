@@ -5,7 +5,7 @@ use Rattle.cr_expand.specs.declared.machine.ExpStep.TheVariants as step
 use Rattle.cr_expand.specs.declared.slot.Slot.TheVariants as slot
 use Rattle.cr_macros.specs.Definition.{text_of}
 use Rattle.cr_macros.specs.Tokens.{Text}
-use Rattle.cr_macros.specs.Expansion.{predefined_token}
+use Rattle.cr_macros.specs.Expansion.{predefined_token, use_of}
 use Rattle.cr_expand.specs.Held.{held, AreTables, IsKnown}
 use Rattle.cr_expand.proofs.Kept.{tables_later, sets_named_later}
 use Rattle.cr_expand.specs.Machines.{IsStep, IsPut}
@@ -17,6 +17,9 @@ use Rattle.cr_expand.proofs.Steps.{same_sets, keeps, predefines}
 use Rattle.cr_expand.proofs.Calling.{objects, object_faults}
 use Rattle.cr_expand.proofs.Arguments.{unclosed, predefined_fault, miscounts, enters}
 use Rattle.cr_expand.proofs.TurnSteps.{head_known, closed_at, is_more, put_from, ended_step, ended_fault, ended_machine, ended_grows, ended_smaller, entered_machine, entered_smaller}
+use Rattle.cr_expand.proofs.Wants.{next_finish, no_calls, end_gives, wanting_end, wanting_hungry, ended_wanted, entered_wanted}
+use Rattle.cr_macros.specs.MacroTables.{table_of}
+use Rattle.cr_expand.specs.Slots.{ends}
 use Rattle.cr_expand.proofs.Keeping.{gives_machine, object_machine}
 use Rattle.cr_expand.proofs.machine.Machine.turn.Goals as goal
 
@@ -175,3 +178,31 @@ returns-in_ok-enter-in-Call-clause-smaller c = λ _.
     let u = next_call c.args.names.now c.args.self.now.sets c.args.macros.now (text_of c.args.names.now c.args.self.now.file) [] c.args.self.now.slots.items c.in-Call.h c.in-Call.m c.in-Call.count c.in-Call.close (c.in-Call.ensures.means (text_of c.args.names.now c.args.self.now.file) [] (λ _. refl)) in
     let i = c.in_ok-enter-in-Call.ensures.entered (slot.Token c.in-Call.h) (slot.Token u.0.opens) u.0.inside u.0.closes u.0.rest u.0.params u.0.slots_are u.0.place u.0.macro_params u.0.counts in
     entered_smaller c.args.names.now c.args.self.now c.enter.new.self c.in-Call.h c.in-Call.m.now [] c.in-Call.count c.in-Call.close _ u.0 i
+
+pub returns-in-End-clause-step : goal.returns-in-End-clause-step
+returns-in-End-clause-step c = λ more q.
+    let e = next_finish c.args.names.now c.args.self.now.sets c.args.macros.now (text_of c.args.names.now c.args.self.now.file) more c.args.self.now.slots.items (c.in-End.ensures.means (text_of c.args.names.now c.args.self.now.file) more q) in
+    let f = wanting_end c.args.names.now c.args.self.now.sets c.args.self.now.finished c.args.self.now.slots.items (λ x. use_of (table_of c.args.names.now c.args.macros.now (text_of c.args.names.now c.args.self.now.file)) (held c.args.names.now c.args.self.now.sets x)) (c.in-End.ensures.wanting (text_of c.args.names.now c.args.self.now.file)) in
+    (refl, refl, end_gives c.expansion_follows_the_rules.ensures c.args.names.now c.args.macros.now c.args.self.now more c.requires.machine e (q f))
+
+pub returns-in-End-clause-wanted : goal.returns-in-End-clause-wanted
+returns-in-End-clause-wanted c =
+    let e = next_finish c.args.names.now c.args.self.now.sets c.args.macros.now (text_of c.args.names.now c.args.self.now.file) [] c.args.self.now.slots.items (c.in-End.ensures.means (text_of c.args.names.now c.args.self.now.file) [] (λ _. refl)) in
+    let f = wanting_end c.args.names.now c.args.self.now.sets c.args.self.now.finished c.args.self.now.slots.items (λ x. use_of (table_of c.args.names.now c.args.macros.now (text_of c.args.names.now c.args.self.now.file)) (held c.args.names.now c.args.self.now.sets x)) (c.in-End.ensures.wanting (text_of c.args.names.now c.args.self.now.file)) in
+    (f, no_calls c.args.names.now c.args.macros.now c.args.self.now c.requires.machine (ap ends e), e)
+
+pub returns-in-Hungry-clause-wanted : goal.returns-in-Hungry-clause-wanted
+returns-in-Hungry-clause-wanted c =
+    let w = wanting_hungry c.args.names.now c.args.self.now.sets c.args.self.now.finished (table_of c.args.names.now c.args.macros.now (text_of c.args.names.now c.args.self.now.file)) c.args.self.now.slots.items (c.in-Hungry.ensures.wanting (text_of c.args.names.now c.args.self.now.file)) in
+    (w.0, no_calls c.args.names.now c.args.macros.now c.args.self.now c.requires.machine w.1, w.2)
+
+pub returns-in_ok-step-in-ArgumentEnd-clause-wanted : goal.returns-in_ok-step-in-ArgumentEnd-clause-wanted
+returns-in_ok-step-in-ArgumentEnd-clause-wanted c =
+    let u = next_end c.args.names.now c.args.self.now.sets c.args.macros.now (text_of c.args.names.now c.args.self.now.file) [] c.args.self.now.slots.items (c.in-ArgumentEnd.ensures.means (text_of c.args.names.now c.args.self.now.file) [] (λ _. refl)) in
+    ended_wanted c.args.names.now c.end_argument.new.names c.args.macros.now c.args.self.now c.end_argument.new.self u.0 c.in_ok-step-in-ArgumentEnd.step c.requires.machine u.1 (c.in_ok-step-in-ArgumentEnd.ensures.ended u.0 u.1)
+
+pub returns-in_ok-enter-in-Call-clause-wanted : goal.returns-in_ok-enter-in-Call-clause-wanted
+returns-in_ok-enter-in-Call-clause-wanted c =
+    let u = next_call c.args.names.now c.args.self.now.sets c.args.macros.now (text_of c.args.names.now c.args.self.now.file) [] c.args.self.now.slots.items c.in-Call.h c.in-Call.m c.in-Call.count c.in-Call.close (c.in-Call.ensures.means (text_of c.args.names.now c.args.self.now.file) [] (λ _. refl)) in
+    let i = c.in_ok-enter-in-Call.ensures.entered (slot.Token c.in-Call.h) (slot.Token u.0.opens) u.0.inside u.0.closes u.0.rest u.0.params u.0.slots_are u.0.place u.0.macro_params u.0.counts in
+    (entered_wanted c.args.names.now c.args.self.now c.enter.new.self c.in-Call.h c.in-Call.m.now [] u.0.params u.0.inside u.0.closes u.0.rest i, refl)
