@@ -35,3 +35,4 @@ pub mod Nexts
 pub mod TurnSteps
 pub mod Silent
 pub mod Wants
+pub mod Fresh

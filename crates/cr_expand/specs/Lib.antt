@@ -15,3 +15,5 @@ pub mod Wanted
 pub mod Predefines
 pub mod Machines
 pub mod Hiding
+pub mod Feeding
+pub mod Expanders
