@@ -36,3 +36,4 @@ pub mod TurnSteps
 pub mod Silent
 pub mod Wants
 pub mod Fresh
+pub mod RunLaw

@@ -5,7 +5,7 @@ ghost use Rattle.cr_macros.specs.Tokens.{Token};
 ghost use Rattle.cr_expand.specs.Held.{Faults};
 ghost use Rattle.cr_expand.specs.Feeding.{IsPutBack};
 ghost use Rattle.cr_expand.specs.Machines.{AreMacros, IsStep, IsWantedAt, IsSameRun};
-ghost use Rattle.cr_expand.specs.Expanders.{left_over, IsRunning, IsFresh, IsFed, Steps};
+ghost use Rattle.cr_expand.specs.Expanders.{left_over, IsRunning, IsFresh, IsFed, Steps, GivesTheExpansion};
 use crate::held::Held;
 use crate::hide_sets::HideSets;
 use crate::machine::{ExpStep, LIMIT, Machine};
@@ -141,3 +141,10 @@ impl Expander {
         self.machine.used
     }
 }
+
+/// The law that a machine gives the expansion of a list however that was cut into pieces and fed
+/// (C11 6.10.3): run to its end, it has given out the tokens of the definition, noted their roles
+/// and used their macro work. It does no work.
+pub fn expansion_is_however_it_is_fed()
+    ensures { GivesTheExpansion }
+{}

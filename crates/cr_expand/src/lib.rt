@@ -26,7 +26,7 @@ mod subst;
 mod turn;
 mod wanted;
 
-pub use expander::Expander;
+pub use expander::{Expander, expansion_is_however_it_is_fed};
 pub use machine::ExpStep;
 pub use cr_macros::{ExpandFault, Macro, MacroTable, Role, Seen};
 
