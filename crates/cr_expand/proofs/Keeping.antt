@@ -17,7 +17,6 @@ use Rattle.cr_macros.specs.Tokens.{Text}
 use Rattle.cr_macros.specs.MacroTables.{Macros, macro_named, macro_text}
 use Rattle.cr_expand.specs.HideSets.{Sets, Grows}
 use Rattle.cr_expand.specs.Held.{IsNamed, IsKnown, AreKnown, AreTables}
-use Rattle.cr_expand.specs.Heading.{IsEntryKnown}
 use Rattle.cr_expand.specs.Items.{IsMacroKnown, IsTokenNamed, AreNamed}
 use Rattle.cr_expand.specs.Frames.{Call}
 use Rattle.cr_expand.specs.Slots.{tokens, ended, ends, begun, IsSlotKnown, AreSlotsKnown}
@@ -43,12 +42,13 @@ params_later names new g (Some ns) a = All-weaker (IsNamed names) (IsNamed new) 
 
 pub macros_later : (names new : List Text) → Grows names new → (macros : Macros) → AreMacros names macros → AreMacros new macros
 macros_later names new g macros a = record {
-  known = All-weaker (IsEntryKnown names) (IsEntryKnown new) (λ e h. (named_later names new e.0 g h.0, record {
-    name = named_later names new e.1.name g h.1.name;
-    params = params_later names new g e.1.params h.1.params;
-    body = All-weaker (IsTokenNamed names) (IsTokenNamed new) (λ t b. named_later names new t.text g b) e.1.body h.1.body;
-  })) macros a.known;
-  short = a.short;
+  known = λ n m e.
+    let k = a.known n m e in
+    (named_later names new n g k.0, (record {
+      name = named_later names new m.name g k.1.0.name;
+      params = params_later names new g m.params k.1.0.params;
+      body = All-weaker (IsTokenNamed names) (IsTokenNamed new) (λ t b. named_later names new t.text g b) m.body k.1.0.body;
+    }, k.1.1));
 }
 
 module _ (names new : List Text) (macros : Macros) (sets more : Sets) (g : Grows names new) (k : Grows sets more) (known : AreMacros names macros) where

@@ -1,6 +1,7 @@
 -- What a machine still gives stays as it was when the tables grow.
-use Rattle.std.proofs.Common.{◌≡◌, ℕ, ◌<◌, Bool, true, false, List, [], ◌∷◌, ◌++◌, length, map, reverse, refl, sym, ap, ◌∙◌, Option, Some, None}
-use Rattle.std.specs.Prelude.{option_map, bytes_eq, if◌then◌else◌}
+use Rattle.std.proofs.Common.{◌≡◌, ℕ, ◌<◌, Bool, true, false, List, [], ◌∷◌, ◌++◌, length, map, reverse, refl, sym, ap, ◌∙◌, arith, Option, Some, None}
+use Rattle.std.specs.Prelude.{option_map, bytes_eq, ◌==◌, if◌then◌else◌}
+use Rattle.std.proofs.lemmas.Bool.Decides.{nat_tests}
 use Rattle.std.specs.List.{All}
 use Rattle.std.specs.Map.{lookup}
 use Rattle.std.proofs.Math.Path.{fun_ext}
@@ -25,7 +26,7 @@ use Rattle.cr_expand.specs.Running.{Waiting, Piece, Stands}
 use Rattle.cr_expand.specs.Slots.{piece, pieces, IsSlotKnown, AreSlotsKnown}
 use Rattle.cr_expand.specs.Machines.{means_of, waiting_of, waiting, IsCallHeld, AreMacros}
 use Rattle.cr_expand.proofs.Kept.{name_kept, names_kept, token_kept, held_kept, all_held_kept, all_args_kept, hidden_kept, known_later, all_known_later, args_known_later, named_later}
-use Rattle.cr_expand.proofs.Looked.{found_known}
+use Rattle.cr_expand.proofs.Looked.{found_known, keys_known}
 
 module _ (names new : List Text) (g : Grows names new) where
   body_kept : (body : List PpTok) → All (IsTokenNamed names) body → tokens_of new body ≡ tokens_of names body
@@ -43,22 +44,40 @@ module _ (names new : List Text) (g : Grows names new) where
       ap {B = MacroText} (λ p. record { params = p; variadic = m.variadic; body = tokens_of new m.body }) (params_kept m.params h.params)
       ∙ ap {B = MacroText} (λ b. record { params = option_map (map (text_of names)) m.params; variadic = m.variadic; body = b }) (body_kept m.body h.body)
 
-  lookup_kept : (macros : Macros) (text : Text) → AreMacrosKnown names macros
-      → option_map (macro_text new) (lookup (λ k. bytes_eq text (text_of new k)) macros) ≡ option_map (macro_text names) (lookup (λ k. bytes_eq text (text_of names k)) macros)
-  lookup_kept [] text h = refl
-  lookup_kept (e ∷ macros) text h =
-      let k = All-head (IsEntryKnown names) e macros h in
-      ap (λ t. option_map (macro_text new) (if bytes_eq text t then Some e.1 else lookup (λ k. bytes_eq text (text_of new k)) macros)) (name_kept names new e.0 g k.0)
-      ∙ by k.1 (lookup_kept macros text (All-tail (IsEntryKnown names) e macros h)) (bytes_eq text (text_of names e.0)) where
-    by : IsMacroKnown names e.1 → option_map (macro_text new) (lookup (λ k. bytes_eq text (text_of new k)) macros) ≡ option_map (macro_text names) (lookup (λ k. bytes_eq text (text_of names k)) macros)
-        → (b : Bool) → option_map (macro_text new) (if b then Some e.1 else lookup (λ k. bytes_eq text (text_of new k)) macros) ≡ option_map (macro_text names) (if b then Some e.1 else lookup (λ k. bytes_eq text (text_of names k)) macros)
-    by m r true = ap Some (macro_kept e.1 m)
-    by m r false = r
+  module _ (all : Macros) (text : Text) (known : (n : Name) (m : Macro) → macro_named n all ≡ Some m → IsMacroKnown names m) where
+    abbrev Skips : Macros → Type 0
+    Skips xs = (n : Name) → bytes_eq text (text_of names n) ≡ true → macro_named n all ≡ macro_named n xs
 
-  pub table_kept : (macros : Macros) (file : Name) → AreMacrosKnown names macros → IsNamed names file → table_of new macros (text_of new file) ≡ table_of names macros (text_of names file)
+    first_found : (e : Name × Macro) (xs : Macros) → Skips (e ∷ xs) → bytes_eq text (text_of names e.0) ≡ true → macro_named e.0 all ≡ Some e.1
+    first_found e xs s q = s e.0 q ∙ ap (λ b. if b then Some e.1 else macro_named e.0 xs) (let r : (e.0.0 == e.0.0) ≡ true = grind (arith, nat_tests) in r)
+
+    other_name : (e : Name × Macro) (xs : Macros) (n : Name) → bytes_eq text (text_of names e.0) ≡ false → bytes_eq text (text_of names n) ≡ true → (b : Bool) → (n.0 == e.0.0) ≡ b → (if b then Some e.1 else macro_named n xs) ≡ macro_named n xs
+    other_name e xs n q p false r = refl
+    other_name e xs n q p true r =
+        let same : n.0 ≡ e.0.0 = grind (arith, nat_tests) in
+        absurd (no (sym p ∙ ap (λ i. bytes_eq text (text_of names (record { 0 = i }))) same ∙ q)) where
+      no : true ≡ false → ⊥
+      no z = cc
+
+    skips_more : (e : Name × Macro) (xs : Macros) → Skips (e ∷ xs) → bytes_eq text (text_of names e.0) ≡ false → Skips xs
+    skips_more e xs s q = λ n p. s n p ∙ other_name e xs n q p (n.0 == e.0.0) refl
+
+    lookup_kept : (xs : Macros) → AreMacrosKnown names xs → Skips xs
+        → option_map (macro_text new) (lookup (λ k. bytes_eq text (text_of new k)) xs) ≡ option_map (macro_text names) (lookup (λ k. bytes_eq text (text_of names k)) xs)
+    lookup_kept [] h s = refl
+    lookup_kept (e ∷ xs) h s =
+        ap (λ t. option_map (macro_text new) (if bytes_eq text t then Some e.1 else lookup (λ k. bytes_eq text (text_of new k)) xs)) (name_kept names new e.0 g (All-head (IsEntryKnown names) e xs h))
+        ∙ by (λ t. lookup_kept xs (All-tail (IsEntryKnown names) e xs h) t) (bytes_eq text (text_of names e.0)) refl where
+      by : (Skips xs → option_map (macro_text new) (lookup (λ k. bytes_eq text (text_of new k)) xs) ≡ option_map (macro_text names) (lookup (λ k. bytes_eq text (text_of names k)) xs))
+          → (b : Bool) → bytes_eq text (text_of names e.0) ≡ b
+          → option_map (macro_text new) (if b then Some e.1 else lookup (λ k. bytes_eq text (text_of new k)) xs) ≡ option_map (macro_text names) (if b then Some e.1 else lookup (λ k. bytes_eq text (text_of names k)) xs)
+      by r true q = ap Some (macro_kept e.1 (known e.0 e.1 (first_found e xs s q)))
+      by r false q = r (skips_more e xs s q)
+
+  pub table_kept : (macros : Macros) (file : Name) → AreMacros names macros → IsNamed names file → table_of new macros (text_of new file) ≡ table_of names macros (text_of names file)
   table_kept macros file h k =
       ap (table_of new macros) (name_kept names new file g k)
-      ∙ ap {B = Table} (λ f. record { macro = f; file = text_of names file }) (fun_ext (λ text. lookup_kept macros text h))
+      ∙ ap {B = Table} (λ f. record { macro = f; file = text_of names file }) (fun_ext (λ text. lookup_kept macros text (λ n m e. found_known names macros n m h e) macros (keys_known names macros h) (λ n q. refl)))
 
   pub means_kept : (macros : Macros) (o : Option Macro) → ((m : Macro) → o ≡ Some m → IsMacroKnown names m) → means_of new o ≡ means_of names o
   means_kept macros None h = refl

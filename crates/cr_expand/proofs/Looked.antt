@@ -1,36 +1,45 @@
 -- Macros that are looked up.
-use Rattle.std.proofs.Common.{◌≡◌, ℕ, ◌≤◌, Bool, true, false, cond, List, [], ◌∷◌, length, refl, sym, ap, subst, ◌∙◌, Option, Some, None}
+use Rattle.std.proofs.Common.{◌≡◌, ℕ, ◌≤◌, Bool, true, false, cond, List, [], ◌∷◌, ◌++◌, append_assoc, arith, length, refl, sym, ap, subst, ◌∙◌, Option, Some, None}
 use Rattle.std.specs.Prelude.{◌==◌, if◌then◌else◌}
 use Rattle.std.specs.List.{All}
-use Rattle.std.proofs.lemmas.List.Elements.{All-head, All-tail}
+use Rattle.std.proofs.lemmas.List.Elements.{All-nil, All-cons}
+use Rattle.std.proofs.lemmas.Bool.Decides.{nat_tests}
 use Rattle.cr_base.specs.declared.token.Name.{Name}
 use Rattle.cr_macros.specs.declared.macros.Macro.{Macro}
 use Rattle.cr_expand.specs.declared.held.Held.{Held}
 use Rattle.cr_macros.specs.Tokens.{Text}
 use Rattle.cr_macros.specs.MacroTables.{Macros, macro_named, macro_text}
 use Rattle.cr_expand.specs.HideSets.{Sets}
-use Rattle.cr_expand.specs.Held.{held, all_args, hidden}
-use Rattle.cr_expand.specs.Heading.{IsEntryKnown}
+use Rattle.cr_expand.specs.Held.{held, all_args, hidden, IsNamed}
+use Rattle.cr_expand.specs.Heading.{IsEntryKnown, AreMacrosKnown}
 use Rattle.cr_expand.specs.Items.{IsMacroKnown}
 use Rattle.cr_expand.specs.Frames.{Call}
 use Rattle.cr_expand.specs.Running.{put_for}
 use Rattle.cr_expand.specs.Machines.{AreMacros, means_of, put_for_call}
 
-same_some : {A : Type 0} (a b : A) → Some a ≡ Some b → a ≡ b
-same_some a b e = cc
-
-found_all : (P : Name × Macro → Type 0) (macros : Macros) (n : Name) (m : Macro) → All P macros → macro_named n macros ≡ Some m → (k : Name) × P (k, m)
-found_all P [] n m h e = cc
-found_all P (x ∷ xs) n m h e = by (found_all P xs n m (All-tail P x xs h)) (n.0 == x.0.0) e where
-  by : (macro_named n xs ≡ Some m → (k : Name) × P (k, m)) → (b : Bool) → cond b (Some x.1) (macro_named n xs) ≡ Some m → (k : Name) × P (k, m)
-  by go true e = (x.0, subst (λ y. P (x.0, y)) (same_some x.1 m e) (All-head P x xs h))
-  by go false e = go e
-
 pub found_known : (names : List Text) (macros : Macros) (n : Name) (m : Macro) → AreMacros names macros → macro_named n macros ≡ Some m → IsMacroKnown names m
-found_known names macros n m h e = (found_all (IsEntryKnown names) macros n m h.known e).1.1
+found_known names macros n m h e = (h.known n m e).1.0
 
 pub found_short : (names : List Text) (macros : Macros) (n : Name) (m : Macro) → AreMacros names macros → macro_named n macros ≡ Some m → length m.body ≤ 33554432
-found_short names macros n m h e = (found_all (λ x. length x.1.body ≤ 33554432) macros n m h.short e).1
+found_short names macros n m h e = (h.known n m e).1.1
+
+-- an entry's name has a macro
+found_here : (ys xs : Macros) (x : Name × Macro) → (m : Macro) × (macro_named x.0 (ys ++ x ∷ xs) ≡ Some m)
+found_here [] xs x = (x.1, ap (λ b. if b then Some x.1 else macro_named x.0 xs) (let q : (x.0.0 == x.0.0) ≡ true = grind (arith, nat_tests) in q))
+found_here (y ∷ ys) xs x = by (x.0.0 == y.0.0) (found_here ys xs x) where
+  by : (b : Bool) → (m : Macro) × (macro_named x.0 (ys ++ x ∷ xs) ≡ Some m) → (m : Macro) × ((if b then Some y.1 else macro_named x.0 (ys ++ x ∷ xs)) ≡ Some m)
+  by true r = (y.1, refl)
+  by false r = r
+
+keys_from : (names : List Text) (ys xs : Macros) → ((n : Name) (m : Macro) → macro_named n (ys ++ xs) ≡ Some m → IsNamed names n) → All (IsEntryKnown names) xs
+keys_from names ys [] k = All-nil (IsEntryKnown names)
+keys_from names ys (x ∷ xs) k =
+    let f = found_here ys xs x in
+    All-cons (IsEntryKnown names) x xs (k x.0 f.0 f.1)
+    (keys_from names (ys ++ x ∷ []) xs (λ n m e. k n m (ap (macro_named n) (sym (append_assoc ys (x ∷ []) xs)) ∙ e)))
+
+pub keys_known : (names : List Text) (macros : Macros) → AreMacros names macros → AreMacrosKnown names macros
+keys_known names macros h = keys_from names [] macros (λ n m e. (h.known n m e).0)
 
 -- what is put in for a call, by what the call holds
 pub call_work : (names : List Text) (macros : Macros) (sets : Sets) (c : Call) (name : Held) (m : Macro) (raw done : List (List Held)) (hide : ℕ)

@@ -74,7 +74,7 @@ module _ (names new : List Text) (macros : Macros) (old now : Machine) (more : L
   calls_held = All-weaker (IsCallKnown names macros old.sets) (IsCallHeld names macros old.sets) (λ c h. h.holds) old.frames.items mach.calls
 
   table_now : table_of new macros (text_of new now.file) ≡ table_of_old
-  table_now = ap (λ f. table_of new macros (text_of new f)) file ∙ table_kept names new g macros old.file known.known mach.file
+  table_now = ap (λ f. table_of new macros (text_of new f)) file ∙ table_kept names new g macros old.file known mach.file
 
   pub still_old : (ws : List Waiting) (ps : List Piece) → waiting names macros old.sets old.frames.items ≡ ws → front names old.sets old.slots.items more ≡ ps
       → still names macros old more ≡ goes_on table_of_old ws ps (LIMIT - old.used)

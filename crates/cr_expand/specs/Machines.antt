@@ -15,7 +15,7 @@ use Rattle.cr_base.specs.declared.token.PpKind.{PpKind}
 use Rattle.cr_base.specs.declared.cause.Role.TheVariants.{MacroName}
 use Rattle.cr_macros.specs.Substitution
 use Rattle.cr_macros.specs.Expansion.{arguments}
-use Rattle.cr_expand.specs.Heading.{AreMacrosKnown}
+use Rattle.cr_expand.specs.Items.{IsMacroKnown}
 use Rattle.cr_expand.specs.declared.machine.Machine.{Machine}
 use Rattle.cr_expand.specs.declared.machine.ExpStep.{ExpStep}
 use Rattle.cr_expand.specs.declared.machine.ExpStep.TheVariants as step
@@ -181,10 +181,13 @@ abbrev pub put_for_call : List Text → Macros → Sets → Call → Work (List 
 put_for_call names macros sets c =
     put_for (held names sets c.name) (means_of names (macro_named c.name.token.text macros)) (all_args names sets c.raw) (all_args names sets c.done) (hidden names sets c.hide)
 
--- The macros are known, and none has more than 33,554,432 tokens in its body.
+-- The names hold what a macro is made of, and its body has at most 33,554,432 tokens.
+abbrev pub IsGoodMacro : List Text → Macro → Type 0
+IsGoodMacro names m = IsMacroKnown names m × (length m.body ≤ 33554432)
+
+-- So it is with each macro that is defined.
 pub record AreMacros (names : List Text) (macros : Macros) : Type 0 where
-  pub known : AreMacrosKnown names macros
-  pub short : All (λ e. length e.1.body ≤ 33554432) macros
+  pub known : (n : Name) (m : Macro) → macro_named n macros ≡ Some m → IsNamed names n × IsGoodMacro names m
 
 -- The arguments of a call, as they are, and how many lists come behind the first.
 pub record AreTaken (names : List Text) (now : List Slot) (m : Macro) (params : List Name) (a b : Slot) (inside : List Held) (rest : List Slot) (raw : List (List Held)) (more : ℕ) : Type 0 where

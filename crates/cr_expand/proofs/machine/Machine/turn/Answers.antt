@@ -11,7 +11,7 @@ use Rattle.cr_expand.proofs.Kept.{tables_later, sets_named_later}
 use Rattle.cr_expand.specs.Machines.{IsStep, IsPut}
 use Rattle.cr_expand.proofs.Telling.{no_memory}
 use Rattle.cr_expand.proofs.Sets.{grows_same}
-use Rattle.cr_expand.proofs.Looked.{found_known, found_short}
+use Rattle.cr_expand.proofs.Looked.{found_known, found_short, keys_known}
 use Rattle.cr_expand.proofs.Nexts.{next_stays, next_predefined, next_object, next_call, next_end, next_unclosed}
 use Rattle.cr_expand.proofs.Steps.{same_sets, keeps, predefines}
 use Rattle.cr_expand.proofs.Calling.{objects, object_faults}
@@ -22,6 +22,9 @@ use Rattle.cr_macros.specs.MacroTables.{table_of}
 use Rattle.cr_expand.specs.Slots.{ends}
 use Rattle.cr_expand.proofs.Keeping.{gives_machine, object_machine}
 use Rattle.cr_expand.proofs.machine.Machine.turn.Goals as goal
+
+pub turn_of-turn-requires-clause-macros : goal.turn_of-turn-requires-clause-macros
+turn_of-turn-requires-clause-macros c = keys_known c.args.names.now c.args.macros.now c.requires.macros
 
 pub end_argument-requires-clause-starts : goal.end_argument-requires-clause-starts
 end_argument-requires-clause-starts c =
