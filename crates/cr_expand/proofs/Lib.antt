@@ -37,3 +37,4 @@ pub mod Silent
 pub mod Wants
 pub mod Fresh
 pub mod RunLaw
+pub mod Defined

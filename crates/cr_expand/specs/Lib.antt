@@ -17,3 +17,4 @@ pub mod Machines
 pub mod Hiding
 pub mod Feeding
 pub mod Expanders
+pub mod GoodMacros

@@ -5,6 +5,7 @@ mod closing;
 mod expander;
 mod fill;
 mod frame;
+mod good_macros;
 mod head;
 mod held;
 mod hide_sets;
@@ -27,6 +28,7 @@ mod turn;
 mod wanted;
 
 pub use expander::{Expander, expansion_is_however_it_is_fed};
+pub use good_macros::defined_macros_are_known;
 pub use machine::ExpStep;
 pub use cr_macros::{ExpandFault, Macro, MacroTable, Role, Seen};
 
