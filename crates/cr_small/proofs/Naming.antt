@@ -1,10 +1,10 @@
--- Tokens that denote something are names, and names are words.
-use Rattle.std.proofs.Common.{◌≡◌, inl, inr, ℕ, ◌+◌, Bool, true, false, not, ◌&&◌, ◌||◌, List, [], ◌∷◌, ◌++◌, map, Option, Some, None, refl, sym, ap, ◌∙◌, subst, arith}
+-- Tokens that denote something are names.
+use Rattle.std.proofs.Common.{◌≡◌, inl, inr, ℕ, ◌+◌, Bool, true, false, not, List, [], ◌∷◌, ◌++◌, map, Option, Some, None, refl, sym, ap, ◌∙◌, subst}
 use Rattle.std.specs.Prelude.{if◌then◌else◌, bytes_eq, codes, ◌==◌}
-use Rattle.std.specs.List.{flat_map, zip, list_all}
+use Rattle.std.specs.List.{flat_map, zip}
 use Rattle.std.specs.Option.{option_map, option_and_then}
-use Rattle.cr_base.specs.Names.{is_word_byte, is_digit, starts_name, is_identifier, is_keyword, keywords}
-use Rattle.cr_small.specs.Tokens.{Token}
+use Rattle.cr_base.specs.Names.{is_identifier, is_keyword, keywords}
+use Rattle.cr_lex.specs.Lexing.{Token}
 use Rattle.cr_small.specs.Terminals.{is_name, is_number, punctuator, terminal_of}
 use Rattle.cr_small.specs.Tree.{Item, number, mention, call, Sum, Statement, local, returns, evaluates, External, Declaration, object, prototype, definition, Leaf, item_leaves, more_leaves, sum_leaves, initialiser_leaves, object_leaves, statement_leaves, closing, declaration_leaves, word_leaves, external_leaves, leaves, plain}
 use Rattle.cr_small.specs.Resolution.{Bindings, Bound, bound, resolved, file_scope}
@@ -17,7 +17,6 @@ use Rattle.cr_small.specs.declared.grammar.Part.{Part}
 use Rattle.cr_small.specs.declared.grammar.Part.TheVariants as part
 use Rattle.cr_small.specs.declared.binder.Denotation.{Denotation}
 use Rattle.cr_small.proofs.Flat.{bool_cases, both, bytes_eq-true}
-use Rattle.cr_small.proofs.Spacing.{IsWord}
 
 punctuator-other : (w : List ℕ) → punctuator w ≡ terminal.Name → ⊥
 punctuator-other [] h = cc
@@ -81,15 +80,9 @@ pub terminal-of-name : (w : List ℕ) → is_name w ≡ true → terminal_of w �
 unfolding terminal_of
 terminal-of-name w h = rw (other-word w (codes "int") h int-is-none, other-word w (codes "void") h void-is-none, other-word w (codes "return") h return-is-none, other-word w (codes "static") h static-is-none, other-word w (codes "extern") h extern-is-none, h) refl
 
-pub word-of-name : (w : List ℕ) → is_name w ≡ true → IsWord w
+pub ident-of-name : (w : List ℕ) → is_name w ≡ true → is_identifier w ≡ true
 unfolding is_name
-word-of-name w h = by w (both (is_identifier w) (not (is_keyword w)) h).0
-  where
-    by : (w : List ℕ) → is_identifier w ≡ true → IsWord w
-    by [] g = let no : ⊥ = cc in absurd no
-    by (x ∷ xs) g =
-        let k = both (starts_name x) (list_all is_word_byte xs) g in
-        (omega arith, ap (λ b. (b || is_digit x) && list_all is_word_byte xs) k.0 ∙ k.1)
+ident-of-name w h = (both (is_identifier w) (not (is_keyword w)) h).0
 
 -- a leaf whose token declares or mentions is a name
 abbrev pub IsNameLeaf : Part → Terminal → Type 0
