@@ -11,3 +11,4 @@ pub mod Seen
 pub mod OpenIfs
 pub mod Readers
 pub mod Traces
+pub mod Words

@@ -10,7 +10,9 @@ mod header;
 mod line;
 mod open_ifs;
 mod reader;
+mod directive;
 mod search;
+mod trace;
 
 use cr_snapshot::known_files_stay_known;
 
