@@ -3,6 +3,7 @@ pub mod Searches
 pub mod ByTexts
 pub mod MacroNames
 pub mod Answered
+pub mod Lexemes
 pub mod Leaving
 pub mod Deep
 pub mod Growing

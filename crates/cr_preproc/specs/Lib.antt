@@ -12,3 +12,4 @@ pub mod OpenIfs
 pub mod Readers
 pub mod Traces
 pub mod Words
+pub mod Truths

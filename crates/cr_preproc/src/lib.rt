@@ -6,6 +6,7 @@ ghost use Rattle.cr_preproc.specs.Runs.{FollowsTheRules};
 
 mod condition;
 mod definitions;
+mod evaluate;
 mod header;
 mod line;
 mod open_ifs;
