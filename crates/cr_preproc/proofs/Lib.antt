@@ -6,6 +6,7 @@ pub mod Answered
 pub mod Lexemes
 pub mod Leaving
 pub mod Deep
+pub mod Frames
 pub mod Growing
 pub mod Snapshots
 mod Rows

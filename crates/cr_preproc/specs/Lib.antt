@@ -13,3 +13,4 @@ pub mod Readers
 pub mod Traces
 pub mod Words
 pub mod Truths
+pub mod Frames
