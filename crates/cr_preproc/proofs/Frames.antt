@@ -1,13 +1,8 @@
 -- Tasks one after another, and the stack of open files.
-use Rattle.std.proofs.Common.{◌≡◌, ℕ, suc, ◌-◌, Bool, true, false, cond, List, [], ◌∷◌, ◌++◌, refl, ap, sym, ◌∙◌, append_assoc}
-use Rattle.std.specs.Prelude.{nat_lt}
-use Rattle.cr_base.specs.declared.unit.Unit.{Unit}
-use Rattle.cr_macros.specs.Tokens.{Text}
-use Rattle.cr_preproc.specs.Tasks.{Reading, Over, Event, Opened, State, Reply, Goes, Ends, Task, Nothing, Done, behind, go_on, ◌>>>◌, tell, reads}
-use Rattle.cr_preproc.specs.Lines.{File}
-use Rattle.cr_preproc.specs.Search.{World}
+use Rattle.std.proofs.Common.{◌≡◌, List, [], ◌∷◌, ◌++◌, refl, ap, sym, ◌∙◌, append_assoc}
+use Rattle.cr_preproc.specs.Tasks.{Event, Opened, Reply, Goes, Ends, Task, Nothing, Done, behind, go_on, ◌>>>◌, reads}
 use Rattle.cr_preproc.specs.Preprocessing.{does_file, does_lines}
-use Rattle.cr_preproc.specs.Frames.{Frame, frame, goes_on, OpensInFront}
+use Rattle.cr_preproc.specs.Frames.{goes_on, OpensInFront}
 
 pub behind_behind : {A : Type 0} (es fs : List Event) (r : Reply A) → behind es (behind fs r) ≡ behind (es ++ fs) r
 behind_behind es fs (Goes a s more) = ap (Goes a s) (sym (append_assoc es fs more))

@@ -5,7 +5,7 @@ use Rattle.cr_macros.specs.Tokens.{Text, Token}
 use Rattle.cr_preproc.specs.declared.open_ifs.OpenIf.{OpenIf}
 use Rattle.cr_preproc.specs.Tasks.{End, Opened, Event, State, Reply, Task, Nothing, behind, ◌>>>◌, ready, tell, reads}
 use Rattle.cr_preproc.specs.Lines.{File}
-use Rattle.cr_preproc.specs.Search.{World, words_path}
+use Rattle.cr_preproc.specs.Search.{World}
 use Rattle.cr_preproc.specs.Preprocessing.{does_lines, does_file, does_first_file, preprocessed}
 use Rattle.cr_preproc.specs.PreprocessingRun.{Agrees}
 

@@ -1,7 +1,7 @@
 -- What the code answers of the list of an `#if`.
 use Rattle.std.specs.Prelude.{◌≡◌, Bool, not, Result, Ok, Err, ℤ}
 use Rattle.cr_cond.specs.declared.CondFault.{CondFault}
-use Rattle.cr_cond.specs.declared.CondFault.TheVariants.{OutOfMemory, Syntax, DivideByZero, Overflow, Constant, MadeDefined}
+use Rattle.cr_cond.specs.declared.CondFault.TheVariants.{OutOfMemory}
 use Rattle.cr_cond.specs.Value.{is_zero_int}
 
 abbrev pub truth_of : Result ℤ CondFault → Result Bool CondFault

@@ -7,12 +7,12 @@ ghost use Rattle.cr_preproc.specs.Frames.{OpensInFront};
 
 mod condition;
 mod definitions;
+mod directive;
 mod evaluate;
 mod header;
 mod line;
 mod open_ifs;
 mod reader;
-mod directive;
 mod search;
 mod trace;
 

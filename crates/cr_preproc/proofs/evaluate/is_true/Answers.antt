@@ -1,4 +1,4 @@
-use Rattle.std.proofs.Common.{ap, sym, subst}
+use Rattle.std.proofs.Common.{sym, subst}
 use Rattle.cr_cond.specs.Value.{IsAnswer, numbered, value_of}
 use Rattle.cr_macros.specs.Tokens.{tokens_of}
 use Rattle.cr_preproc.specs.Conditionals.{list_value}
