@@ -15,7 +15,7 @@ use Rattle.cr_cond.specs.Constants.{unsigned_suffixes, plain_suffixes}
 use Rattle.cr_macros.specs.OneToken as one
 use Rattle.cr_macros.specs.Tokens.{Event as Telling, Rule, Taken}
 use Rattle.cr_macros.specs.Expansion.{expand}
-use Rattle.cr_preproc.specs.Tasks.{Tokens, Includes, End, Ill, Over, Needs, Event, Opened, Looked, Told, Final, Reply, Goes, Ends, Nothing, events_of}
+use Rattle.cr_preproc.specs.Tasks.{Tokens, Reading, Includes, End, Ill, Over, Needs, Event, Opened, Looked, Told, Final, Reply, Goes, Ends, Nothing, events_of}
 use Rattle.cr_preproc.specs.Search.{World}
 use Rattle.cr_preproc.specs.Preprocessing.{preprocessed, does_unit, at_first}
 use Rattle.cr_preproc.specs.PreprocessingRun.{steps}
@@ -220,6 +220,23 @@ tokens_before_a_paste = refl
 a_paste_before_tokens : end_with_room 2 ≡ Some (Ill cause.BadPaste (here 22))
 unfolding expand is_built_in lexed cells cut longest part_of token_kind one.is_punctuator one.punctuators unsigned_suffixes plain_suffixes
 a_paste_before_tokens = refl
+
+-- files and tokens are read, and what a run gives comes before the limit that a token of its next line passes
+abbrev end_with_reading : ℕ → List (List ℕ) → Option End
+unfolding expand is_built_in lexed cells cut longest part_of token_kind one.is_punctuator one.punctuators unsigned_suffixes plain_suffixes
+end_with_reading n lines = (shown (does_unit (world (one_file lines)) the_unit (record at_first { reading = n }))).end
+
+two_files_and_two_tokens : end_with_reading 4 (codes "x y" ∷ []) ≡ None
+unfolding expand is_built_in lexed cells cut longest part_of token_kind one.is_punctuator one.punctuators unsigned_suffixes plain_suffixes
+two_files_and_two_tokens = refl
+
+a_token_too_many : end_with_reading 3 (codes "x y" ∷ []) ≡ Some (Over Reading)
+unfolding expand is_built_in lexed cells cut longest part_of token_kind one.is_punctuator one.punctuators unsigned_suffixes plain_suffixes
+a_token_too_many = refl
+
+a_paste_before_reading : end_with_reading 15 (codes "#define C(a) a##/" ∷ codes "C(+) z" ∷ []) ≡ Some (Ill cause.BadPaste (here 18))
+unfolding expand is_built_in lexed cells cut longest part_of token_kind one.is_punctuator one.punctuators unsigned_suffixes plain_suffixes
+a_paste_before_reading = refl
 
 abbrev taken_as : Telling → List (ℕ × Role)
 taken_as Rule = []

@@ -98,6 +98,10 @@ abbrev pub is_true : Place → Result ℤ CondFault → Task Bool
 is_true hash (Ok n) = only (not (is_zero_int n))
 is_true hash (Err fault) = ends (Ill (cause_of fault) hash)
 
+-- the value of a list, or its first fault
+abbrev pub list_value : List Token → Result ℤ CondFault
+list_value us = numbered (value_of (map {A = Token} lexeme_of us))
+
 -- the truth of the list of an `if` or an `elif`: `defined` is answered first, and then the list is expanded
 abbrev pub condition : Text → Place → List Token → Task Bool
 condition path hash ts =
@@ -105,7 +109,7 @@ condition path hash ts =
     >>> λ s. tell (flat_map asking (pieces 0 ts))
     >>> λ d. in_directive hash (expands path (map (answered (is_macro s)) (pieces 0 ts)))
     >>> λ us. tell (flat_map (marks Controlling) us)
-    >>> λ d. is_true hash (numbered (value_of (map {A = Token} lexeme_of us)))
+    >>> λ d. is_true hash (list_value us)
 
 -- the truth of the name of an `ifdef`; what stands behind it is ignored
 abbrev pub is_named : Place → List Token → Task Bool

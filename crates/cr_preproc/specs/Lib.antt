@@ -11,3 +11,6 @@ pub mod Seen
 pub mod OpenIfs
 pub mod Readers
 pub mod Traces
+pub mod Words
+pub mod Truths
+pub mod Frames

@@ -1,11 +1,11 @@
 -- The preprocessing of a translation unit (C11 5.1.1.2, phase 4; 6.10): the text that its command words make, and then
 -- its main file.
-use Rattle.std.specs.Prelude.{ℕ, zero, suc, Bool, true, false, ◌&&◌, if◌then◌else◌, List, [], ◌∷◌, ◌++◌, length, take, replicate, Option, Some, None}
+use Rattle.std.specs.Prelude.{ℕ, zero, suc, Bool, true, false, ◌&&◌, if◌then◌else◌, List, [], ◌∷◌, ◌++◌, Option, Some, None}
 use Rattle.cr_base.specs.declared.cause.IllCause.TheVariants as cause
 use Rattle.cr_base.specs.declared.cause.Role.TheVariants as role
 use Rattle.cr_base.specs.declared.unit.Unit.{Unit}
 use Rattle.cr_macros.specs.Tokens.{Text, Token}
-use Rattle.cr_preproc.specs.Tasks.{Includes, End, Ill, Over, Took, Opened, State, Reply, Task, Nothing, ◌>>>◌, only, ends, tell, look, marks, reads}
+use Rattle.cr_preproc.specs.Tasks.{Includes, End, Ill, Over, Took, Opened, State, Reply, Task, Nothing, ◌>>>◌, only, ready, ends, tell, marks, reads}
 use Rattle.cr_preproc.specs.Lines.{File, place_in, Line, Plain, Conditional, Directive, Empty, Wordless, line_of}
 use Rattle.cr_preproc.specs.Search.{World, words_path}
 use Rattle.cr_preproc.specs.Runs.{runs, inside}
@@ -52,13 +52,17 @@ is_plain (Directive hash t ts) = false
 is_plain Empty = false
 is_plain (Wordless hash) = false
 
--- the run with those tokens of a line of text that may still be read
-abbrev pub run_with : List OpenIf → List Token → List Token → State → List Token
-run_with cs run line s = if is_live cs && is_plain (line_of line) then run ++ take s.reading line else run
+-- the run with the tokens of a line that are taken so far, where they are text
+abbrev pub run_with : List OpenIf → List Token → List Token → List Token
+run_with cs run taken = if is_live cs && is_plain (line_of taken) then run ++ taken else run
 
--- the tokens of a line are taken from the file
+-- the rest of a line is taken from the file, token by token
+abbrev pub takes_rest : Text → List OpenIf → List Token → List Token → List Token → Task Nothing
+takes_rest path cs run taken [] = ready
+takes_rest path cs run taken (t ∷ rest) = inside path (run_with cs run taken) (reads 1 (Took ∷ [])) >>> λ d. takes_rest path cs run (taken ++ t ∷ []) rest
+
 abbrev pub takes_line : Text → List OpenIf → List Token → List Token → Task Nothing
-takes_line path cs run line = look >>> λ s. inside path (run_with cs run line s) (reads (length line) (replicate (length line) Took))
+takes_line path cs run line = takes_rest path cs run [] line
 
 abbrev pub does_lines : World → Unit → Opening → Text → Option End → List (List Token) → List OpenIf → List Token → Task Nothing
 does_lines w u enter path fault [] cs run = at_end path run fault cs

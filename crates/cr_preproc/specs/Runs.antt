@@ -62,11 +62,11 @@ abbrev pub earlier : End → Reply Nothing → End
 earlier end (Goes d s events) = end
 earlier end (Ends of_run events) = if is_open_call of_run then end else of_run
 
-abbrev pub after_run : {A : Type 0} → Reply Nothing → Reply A → Reply A
-after_run run (Goes a s events) = Goes a s events
-after_run run (Ends end events) = Ends (earlier end run) (events ++ events_of run)
+abbrev pub after_run : {A : Type 0} → Text → List Token → State → Reply A → Reply A
+after_run path run s (Goes a s1 events) = Goes a s1 events
+after_run path run s (Ends end events) = Ends (earlier end (runs path run s)) (events ++ events_of (runs path run s))
 
 -- This is done inside a run. Where it ends the unit, the run's tokens so far are expanded first, and an end that this
 -- gives comes first, unless it is a call that is open there.
 abbrev pub inside : {A : Type 0} → Text → List Token → Task A → Task A
-inside path run m s = after_run (runs path run s) (m s)
+inside path run m s = after_run path run s (m s)

@@ -26,13 +26,20 @@ abbrev pub seen_telling : Text → Text → Telling → List Seen
 seen_telling old new Rule = []
 seen_telling old new (Taken text place as1) = if is_either old new text then record { place = place; role = as1 } ∷ [] else []
 
+-- what is seen of a token that is taken in a role
+abbrev pub seen_as : Text → Text → Role → Token → List Seen
+seen_as old new role1 t = flat_map (seen_telling old new) (takes role1 t)
+
+abbrev pub all_seen_as : Text → Text → Role → List Token → List Seen
+all_seen_as old new role1 = flat_map (seen_as old new role1)
+
 abbrev pub seen_of : Text → Text → Event → List Seen
 seen_of old new Took = []
 seen_of old new (Opened path) = []
 seen_of old new (Looked paths) = []
 seen_of old new (Defined t m) = []
 seen_of old new (Told e) = seen_telling old new e
-seen_of old new (Final t) = flat_map (seen_telling old new) (takes role.Final t)
+seen_of old new (Final t) = seen_as old new role.Final t
 
 abbrev pub new_macros_of : Text → Event → List Place
 new_macros_of new Took = []

@@ -3,14 +3,18 @@
 
 ghost use Rattle.cr_preproc.specs.PreprocessingRun.{GoesOn, SnapshotsAgree};
 ghost use Rattle.cr_preproc.specs.Runs.{FollowsTheRules};
+ghost use Rattle.cr_preproc.specs.Frames.{OpensInFront};
 
 mod condition;
 mod definitions;
+mod directive;
+mod evaluate;
 mod header;
 mod line;
 mod open_ifs;
 mod reader;
 mod search;
+mod trace;
 
 use cr_snapshot::known_files_stay_known;
 
@@ -18,6 +22,12 @@ use cr_snapshot::known_files_stay_known;
 /// token of the result is given out as soon as it is found. It does nothing: its contract is the law.
 pub fn a_run_follows_its_rules()
     ensures { FollowsTheRules }
+{}
+
+/// To open a file and to go on with others is to open it in front of them. It does nothing: its contract
+/// is the law.
+pub fn a_file_is_opened_in_front()
+    ensures { OpensInFront }
 {}
 
 /// Where more files are known, a unit that wanted no file is preprocessed as before, and one that wanted

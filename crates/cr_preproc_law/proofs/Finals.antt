@@ -1,6 +1,6 @@
 -- The final tokens of a unit come from text lines and definitions, or are made.
 use Rattle.std.proofs.Common.{◌≡◌, ℕ, zero, suc, ◌+◌, ◌-◌, Bool, true, false, cond, List, [], ◌∷◌, ◌++◌, length, map, take, drop, refl, subst, Some, None, Option}
-use Rattle.std.specs.Prelude.{nat_lt, flat_map, codes, ◌||◌, ◌&&◌, not, bytes_eq, is_some, replicate, Result, Ok, Err, ℤ}
+use Rattle.std.specs.Prelude.{nat_lt, flat_map, codes, ◌||◌, ◌&&◌, not, bytes_eq, is_some, Result, Ok, Err, ℤ}
 use Rattle.std.specs.List.{AllByRecursion}
 use Rattle.cr_base.specs.declared.token.Place.{Place}
 use Rattle.cr_base.specs.declared.token.Origin.{Origin}
@@ -30,7 +30,7 @@ use Rattle.cr_preproc.specs.Search.{World, Search, Finds, Misses, Lacks, search,
 use Rattle.cr_preproc.specs.Runs.{table_in, expands, run_on, run_rules, runs_within, runs, after_run, inside}
 use Rattle.cr_preproc.specs.Conditionals.{is_live, group_if, opened, is_macro, lexeme_of, Piece, Other, Asks, answered, pieces, asking, cause_of, is_true, condition, is_named, elif_in, group_of_else, begun, conditional, is_word_live}
 use Rattle.cr_preproc.specs.Directives.{Opening, Header, all_marks, header_name, site_of, opens_found, looks, opens, includes_expanded, includes, with_macro, parameter_marks, definition_marks, defines, undefines, begins_with_once, pragma, plain_directive, directive}
-use Rattle.cr_preproc.specs.Preprocessing.{Ahead, ahead, where_live, by_line, at_end, run_with, takes_line, does_lines, does_file, levels, does_first_file, does_unit, at_first, preprocessed}
+use Rattle.cr_preproc.specs.Preprocessing.{Ahead, ahead, where_live, by_line, at_end, run_with, takes_rest, takes_line, does_lines, does_file, levels, does_first_file, does_unit, at_first, preprocessed}
 use Rattle.cr_preproc.specs.PreprocessingRun.{final_tokens}
 use Rattle.cr_preproc_law.specs.Finals.{LinePasses, FilePasses, FoundPasses, FinalsPass}
 
@@ -105,10 +105,10 @@ module _ (test : Origin → Bool) (made_passes : test Made ≡ true) where
   keeps_live P false m n h k = k
 
   keeps_inside : {A : Type 0} (P : A → Type 0) (path : Text) (run : List Token) (m : Task A) → Keeps P m → Keeps P (inside path run m)
-  keeps_inside {A} P path run m h = record { at = λ s good. go (runs path run s) (m s) (h.at s good) } where
-    go : (q : Reply Nothing) (r : Reply A) → ReplyKeeps P r → ReplyKeeps P (after_run q r)
-    go q (Goes a s events) k = k
-    go q (Ends end events) k = tt
+  keeps_inside {A} P path run m h = record { at = λ s good. go s (m s) (h.at s good) } where
+    go : (s : State) (r : Reply A) → ReplyKeeps P r → ReplyKeeps P (after_run path run s r)
+    go s (Goes a s1 events) k = k
+    go s (Ends end events) k = tt
 
   keeps_in_directive : {A : Type 0} (P : A → Type 0) (hash : Place) (m : Task A) → Keeps P m → Keeps P (in_directive hash m)
   keeps_in_directive {A} P hash m h = record { at = λ s good. go (m s) (h.at s good) } where
@@ -133,10 +133,6 @@ module _ (test : Origin → Bool) (made_passes : test Made ≡ true) where
   finals_pass : (ts : List Token) → AllPass test ts → EventsPass (map Final ts)
   finals_pass [] h = tt
   finals_pass (t ∷ ts) h = (h.0, finals_pass ts h.1)
-
-  took_pass : (n : ℕ) → EventsPass (replicate n Took)
-  took_pass zero = tt
-  took_pass (suc n) = (tt, took_pass n)
 
   still : (s : State) (work reading room : ℕ) → Good s → Good (record s { work = work; reading = reading; room = room })
   still s work reading room good = record { bodies = good.bodies }
@@ -402,10 +398,14 @@ module _ (test : Origin → Bool) (made_passes : test Made ≡ true) where
         keeps_at_end path run None (c ∷ cs) h = keeps_inside Any path run (ends (Ill cause.OpenIf c.hash)) (keeps_ends Any (Ill cause.OpenIf c.hash))
         keeps_at_end path run None [] h = keeps_runs path run h
 
+        keeps_rest : (path : Text) (cs : List OpenIf) (run taken line : List Token) → Keeps Any (takes_rest path cs run taken line)
+        keeps_rest path cs run taken [] = keeps_only Any Done tt
+        keeps_rest path cs run taken (t ∷ line) =
+            keeps_then Any Any (inside path (run_with cs run taken) (reads 1 (Took ∷ []))) (λ d. takes_rest path cs run (taken ++ t ∷ []) line)
+            (keeps_inside Any path (run_with cs run taken) (reads 1 (Took ∷ [])) (keeps_reads 1 (Took ∷ []) (tt, tt))) (λ d x. keeps_rest path cs run (taken ++ t ∷ []) line)
+
         keeps_takes : (path : Text) (cs : List OpenIf) (run line : List Token) → Keeps Any (takes_line path cs run line)
-        keeps_takes path cs run line =
-            keeps_then Any Any look (λ s. inside path (run_with cs run line s) (reads (length line) (replicate (length line) Took))) keeps_look
-            (λ s x. keeps_inside Any path (run_with cs run line s) (reads (length line) (replicate (length line) Took)) (keeps_reads (length line) (replicate (length line) Took) (took_pass (length line))))
+        keeps_takes path cs run line = keeps_rest path cs run [] line
 
         keeps_lines : (path : Text) (fault : Option End) (lines : List (List Token)) (cs : List OpenIf) (run : List Token) → AllByRecursion (λ line. LinePasses test line (line_of line)) lines → AllPass test run → Keeps Any (does_lines w u enter path fault lines cs run)
         keeps_lines path fault [] cs run h k = keeps_at_end path run fault cs k

@@ -75,11 +75,11 @@ sim_if r v false m n m1 n1 h k = k
 -- only the end of a run shows where a task inside it ends the unit
 pub sim_inside : {A : Type 0} (r : Renaming) (v : A → A) (path : Text) (run run1 : List Token) (m n : Task A) → Sim r v m n → Sim r v (inside path run m) (inside path run1 n)
 sim_inside {A} r v path run run1 m n h = record { at = λ s good. go s good (m s) refl } where
-  go : (s : State) → Good r s → (p : Reply A) → m s ≡ p → Follows r v (after_run (runs path run s) p) (after_run (runs path run1 (renamed_state r s)) (n (renamed_state r s)))
+  go : (s : State) → Good r s → (p : Reply A) → m s ≡ p → Follows r v (after_run path run s p) (after_run path run1 (renamed_state r s) (n (renamed_state r s)))
   go s good (Ends x es) e1 = tt
   go s good (Goes a s2 es) e1 = λ fine.
       let p = subst (λ x. Follows r v x (n (renamed_state r s))) e1 (h.at s good) fine in
-      (ap (after_run (runs path run1 (renamed_state r s))) p.0, p.1)
+      (ap (after_run path run1 (renamed_state r s)) p.0, p.1)
 
 pub sim_in_directive : {A : Type 0} (r : Renaming) (v : A → A) (hash hash1 : Place) (m n : Task A) → Sim r v m n → Sim r v (in_directive hash m) (in_directive hash1 n)
 sim_in_directive {A} r v hash hash1 m n h = record { at = λ s good. go s good (m s) refl } where

@@ -1,7 +1,7 @@
 -- A renaming keeps the preprocessing of a unit.
-use Rattle.std.proofs.Common.{◌≡◌, ℕ, zero, suc, Bool, true, false, cond, List, [], ◌∷◌, ◌++◌, length, map, refl, ap, sym, ◌∙◌, subst, Some, None, Option}
-use Rattle.std.proofs.lemmas.List.{map-append, length-map}
-use Rattle.std.specs.Prelude.{replicate, option_map}
+use Rattle.std.proofs.Common.{◌≡◌, ℕ, zero, suc, Bool, true, false, cond, List, [], ◌∷◌, ◌++◌, map, refl, ap, sym, ◌∙◌, subst, Some, None, Option}
+use Rattle.std.proofs.lemmas.List.{map-append}
+use Rattle.std.specs.Prelude.{option_map}
 use Rattle.std.specs.List.{AllByRecursion}
 use Rattle.cr_base.specs.Names.{is_reserved}
 use Rattle.cr_base.specs.declared.token.Place.{Place}
@@ -12,7 +12,7 @@ use Rattle.cr_macros.specs.Tokens.{Text, Token, is_ident}
 use Rattle.cr_macros.specs.Substitution.{is_hash}
 use Rattle.cr_expand_law.specs.Renaming.{Renaming, renamed, all_renamed, KeepsExpansion}
 use Rattle.cr_expand_law.specs.Uses.{KeepsUses}
-use Rattle.cr_preproc.specs.Tasks.{Includes, End, Ill, Over, Event, Took, Opened, State, Goes, Task, Nothing, Done, ◌>>>◌, only, ends, tell, look, marks, reads}
+use Rattle.cr_preproc.specs.Tasks.{Includes, End, Ill, Over, Event, Took, Opened, State, Goes, Task, Nothing, Done, ◌>>>◌, only, ends, tell, marks, reads}
 use Rattle.cr_preproc.specs.declared.line.Word.{Word}
 use Rattle.cr_preproc.specs.Lines.{Line, Plain, Conditional, Directive, Empty, Wordless, place_in, by_word, behind_hash, word_of, line_of}
 use Rattle.cr_preproc.specs.Search.{World, words_path}
@@ -20,10 +20,10 @@ use Rattle.cr_preproc.specs.Runs.{runs, inside}
 use Rattle.cr_preproc.specs.declared.open_ifs.OpenIf.{OpenIf}
 use Rattle.cr_preproc.specs.Conditionals.{is_live, conditional, is_word_live}
 use Rattle.cr_preproc.specs.Directives.{Opening, directive}
-use Rattle.cr_preproc.specs.Preprocessing.{Ahead, ahead, where_live, by_line, at_end, run_with, takes_line, does_lines, does_file, levels, does_first_file, does_unit, at_first, preprocessed}
+use Rattle.cr_preproc.specs.Preprocessing.{Ahead, ahead, where_live, by_line, at_end, run_with, takes_rest, takes_line, does_lines, does_file, levels, does_first_file, does_unit, at_first, preprocessed}
 use Rattle.cr_preproc_law.specs.Renaming.{renamed_end, renamed_state, renamed_event, IsSame, IsApartIn, IsApart, IsFine}
 use Rattle.cr_preproc_law.proofs.Tokens.{renamed_events, same_token, hash_same, marks_renamed}
-use Rattle.cr_preproc_law.proofs.Following.{Follows, Sim, sim_then, sim_only, sim_ends, sim_look, sim_tell, sim_to, sim_inside, same, sim_reads, sim_runs}
+use Rattle.cr_preproc_law.proofs.Following.{Follows, Sim, sim_then, sim_only, sim_ends, sim_tell, sim_to, sim_inside, same, sim_reads, sim_runs}
 use Rattle.cr_preproc_law.proofs.Searched.{IsRenamedFinding, Enters, sim_opens}
 use Rattle.cr_preproc_law.proofs.Conditions.{shifted_ifs, live_same, word_live_same, sim_conditional}
 use Rattle.cr_preproc_law.proofs.Directives.{HasNoParameter, sim_directive}
@@ -74,10 +74,6 @@ run_renamed r false run line = refl
 word_marks : (r : Renaming) (b : Bool) (t : Token) → cond b (marks role.Directive (renamed r t)) [] ≡ renamed_events r (cond b (marks role.Directive t) [])
 word_marks r true t = marks_renamed r role.Directive t
 word_marks r false t = refl
-
-took_same : (r : Renaming) (n : ℕ) → replicate n Took ≡ renamed_events r (replicate n Took)
-took_same r zero = refl
-took_same r (suc n) = ap (λ x. Took ∷ x) (took_same r n)
 
 module _ (r : Renaming) (not_reserved : is_reserved r.new ≡ false) (keeps_expansion : KeepsExpansion) (keeps_uses : KeepsUses) (w v : World) (u : Unit) (found : (path : Text) → IsRenamedFinding r (w.find path) (v.find path)) where
   runs_sim : (path : Text) (run : List Token) → Sim r same (runs path run) (runs path (all_renamed r run))
@@ -134,17 +130,18 @@ module _ (r : Renaming) (not_reserved : is_reserved r.new ≡ false) (keeps_expa
         (λ d. sim_ends r (renamed_ahead r) (Ill cause.BadDirective hash) (ends (Ill cause.BadDirective (r.shift hash)))))
         (sim_only r (renamed_ahead r) (ahead cs run))
 
-    sim_reads_line : (line : List Token) → Sim r same (reads (length line) (replicate (length line) Took)) (reads (length (all_renamed r line)) (replicate (length (all_renamed r line)) Took))
-    sim_reads_line line =
-        sim_to r same (reads (length line) (replicate (length line) Took)) (reads (length (all_renamed r line)) (replicate (length (all_renamed r line)) Took)) (reads (length line) (replicate (length line) Took))
-        (ap (λ n. reads n (replicate n Took)) (length-map line (renamed r))) (sim_reads r (length line) (replicate (length line) Took) (replicate (length line) Took) (took_same r (length line)))
+    sim_takes_rest : (path : Text) (cs : List OpenIf) (run taken line : List Token) → Sim r same (takes_rest path cs run taken line) (takes_rest path (shifted_ifs r cs) (all_renamed r run) (all_renamed r taken) (all_renamed r line))
+    sim_takes_rest path cs run taken [] = sim_only r same Done
+    sim_takes_rest path cs run taken (t ∷ line) =
+        sim_then r same same (inside path (run_with cs run taken) (reads 1 (Took ∷ []))) (inside path (run_with (shifted_ifs r cs) (all_renamed r run) (all_renamed r taken)) (reads 1 (Took ∷ [])))
+        (λ d. takes_rest path cs run (taken ++ t ∷ []) line) (λ d. takes_rest path (shifted_ifs r cs) (all_renamed r run) (all_renamed r taken ++ renamed r t ∷ []) (all_renamed r line))
+        (sim_inside r same path (run_with cs run taken) (run_with (shifted_ifs r cs) (all_renamed r run) (all_renamed r taken)) (reads 1 (Took ∷ [])) (reads 1 (Took ∷ [])) (sim_reads r 1 (Took ∷ []) (Took ∷ []) refl))
+        (λ d. sim_to r same (takes_rest path cs run (taken ++ t ∷ []) line) (takes_rest path (shifted_ifs r cs) (all_renamed r run) (all_renamed r taken ++ renamed r t ∷ []) (all_renamed r line))
+        (takes_rest path (shifted_ifs r cs) (all_renamed r run) (all_renamed r (taken ++ t ∷ [])) (all_renamed r line))
+        (ap (λ x. takes_rest path (shifted_ifs r cs) (all_renamed r run) x (all_renamed r line)) (sym (map-append (renamed r) taken (t ∷ [])))) (sim_takes_rest path cs run (taken ++ t ∷ []) line))
 
     sim_takes_line : (path : Text) (cs : List OpenIf) (run line : List Token) → Sim r same (takes_line path cs run line) (takes_line path (shifted_ifs r cs) (all_renamed r run) (all_renamed r line))
-    sim_takes_line path cs run line =
-        sim_then r (renamed_state r) same look look (λ s. inside path (run_with cs run line s) (read line)) (λ s. inside path (run_with (shifted_ifs r cs) (all_renamed r run) (all_renamed r line) s) (read (all_renamed r line))) (sim_look r)
-        (λ s. sim_inside r same path (run_with cs run line s) (run_with (shifted_ifs r cs) (all_renamed r run) (all_renamed r line) (renamed_state r s)) (read line) (read (all_renamed r line)) (sim_reads_line line)) where
-          read : List Token → Task Nothing
-          read xs = reads (length xs) (replicate (length xs) Took)
+    sim_takes_line path cs run line = sim_takes_rest path cs run [] line
 
     sim_lines : (path : Text) (fault : Option End) (lines : List (List Token)) → AllByRecursion (IsApart r) lines → (cs : List OpenIf) (run : List Token)
         → Sim r same (does_lines w u enter path fault lines cs run) (does_lines v u enter1 path (option_map (renamed_end r) fault) (map (all_renamed r) lines) (shifted_ifs r cs) (all_renamed r run))
