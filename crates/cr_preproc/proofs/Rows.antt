@@ -696,3 +696,90 @@ one_level_more : (run (from_main (codes "#include \"ab\"" ∷ []) 199 (codes "in
     ∷ []
 unfolding preprocessed expand is_built_in lexed cells cut longest part_of token_kind one.is_punctuator one.punctuators unsigned_suffixes plain_suffixes
 one_level_more = refl
+
+-- a line whose first token is `#`; comments and joined lines are no tokens
+what_a_directive_is : map ended (
+    (codes "/* */ #error" ∷ [])
+    ∷ (codes "/*" ∷ codes "*/ #error" ∷ [])
+    ∷ (codes "x /*" ∷ codes "*/ #error" ∷ [])
+    ∷ (codes "#def\\" ∷ codes "ine defined" ∷ [])
+    ∷ (codes "%:error" ∷ [])
+    ∷ (codes "x #error" ∷ [])
+    ∷ (codes "#if 0" ∷ codes "#elif" ∷ codes "#endif" ∷ [])
+    ∷ (codes "#if 1" ∷ codes "#elif" ∷ codes "#endif" ∷ [])
+    ∷ [])
+    ≡ Some (Ill cause.ErrorDirective (here 6))
+    ∷ Some (Ill cause.ErrorDirective (here 6))
+    ∷ None
+    ∷ Some (Ill cause.BadDefine (here 0))
+    ∷ Some (Ill cause.ErrorDirective (here 0))
+    ∷ None
+    ∷ Some (Ill cause.CondSyntax (here 6))
+    ∷ None
+    ∷ []
+unfolding preprocessed expand is_built_in lexed cells cut longest part_of token_kind one.is_punctuator one.punctuators unsigned_suffixes plain_suffixes
+what_a_directive_is = refl
+
+-- a wrong number of arguments comes before what is inside them
+order_inside_a_call : map ended (
+    (codes "#define C(a) a##/" ∷ codes "#define f(a) a" ∷ codes "f(C(+),1)" ∷ [])
+    ∷ (codes "#define C(a) a##/" ∷ codes "#define f(a) a" ∷ codes "f(C(+))" ∷ [])
+    ∷ (codes "#define C(a) a##/" ∷ codes "#define f(a) a" ∷ codes "f(f(1,2))" ∷ [])
+    ∷ (codes "#define C(a) a##/" ∷ codes "#define f(a) a" ∷ codes "f(f(1,2)" ∷ [])
+    ∷ [])
+    ≡ Some (Ill cause.ArgCount (here 33))
+    ∷ Some (Ill cause.BadPaste (here 35))
+    ∷ Some (Ill cause.ArgCount (here 35))
+    ∷ Some (Ill cause.OpenCall (here 33))
+    ∷ []
+unfolding preprocessed expand is_built_in lexed cells cut longest part_of token_kind one.is_punctuator one.punctuators unsigned_suffixes plain_suffixes
+order_inside_a_call = refl
+
+a_paste_before_the_limit_of_work : ended_with (record at_first { work = 0 }) (codes "#define C(a) a##/" ∷ codes "C(+)" ∷ [])
+    ∷ ended_with (record at_first { work = 1 }) (codes "#define f(a) a" ∷ codes "f(1)" ∷ [])
+    ∷ ended_with (record at_first { work = 2 }) (codes "#define f(a) a" ∷ codes "f(1)" ∷ [])
+    ∷ []
+    ≡ Some (Ill cause.BadPaste (here 18))
+    ∷ Some (Over Macros)
+    ∷ None
+    ∷ []
+unfolding preprocessed expand is_built_in lexed cells cut longest part_of token_kind one.is_punctuator one.punctuators unsigned_suffixes plain_suffixes
+a_paste_before_the_limit_of_work = refl
+
+-- a call's `(` must be there
+a_name_before_a_made_parenthesis : given (codes "#define f(a) [a]" ∷ codes "#define LP (" ∷ codes "f LP 1)" ∷ []) ≡ (codes "f", 30) ∷ (codes "(", 32) ∷ (codes "1", 35) ∷ (codes ")", 36) ∷ []
+unfolding preprocessed expand is_built_in lexed cells cut longest part_of token_kind one.is_punctuator one.punctuators unsigned_suffixes plain_suffixes
+a_name_before_a_made_parenthesis = refl
+
+defined_in_a_call : given (codes "#define f(a) a" ∷ codes "#if f(defined f)" ∷ codes "1" ∷ codes "#endif" ∷ []) ≡ (codes "1", 32) ∷ []
+unfolding preprocessed expand is_built_in lexed cells cut longest part_of token_kind one.is_punctuator one.punctuators unsigned_suffixes plain_suffixes
+defined_in_a_call = refl
+
+-- C11 6.10.3.5, example 4
+the_standards_include : run ((codes "a.c", text (codes "#define str(s) # s" ∷ codes "#define xstr(s) str(s)" ∷ codes "#define INCFILE(n) vers ## n" ∷ codes "#include xstr(INCFILE(2).h)" ∷ [])) ∷ (codes "vers2.h", text (codes "v" ∷ [])) ∷ []) ≡ record {
+  finals = (codes "v", 0) ∷ [];
+  opened = codes "a.c" ∷ codes "vers2.h" ∷ [];
+  looked = codes "a.c" ∷ codes "vers2.h" ∷ [];
+  end = None;
+}
+unfolding preprocessed expand is_built_in lexed cells cut longest part_of token_kind one.is_punctuator one.punctuators unsigned_suffixes plain_suffixes
+the_standards_include = refl
+
+-- C11 6.10.2p8
+the_standards_versions : run ((codes "a.c", text (codes "#define VERSION 2" ∷ codes "#if VERSION == 1" ∷ codes "#define INCFILE \"vers1.h\"" ∷ codes "#elif VERSION == 2" ∷ codes "#define INCFILE \"vers2.h\"" ∷ codes "#else" ∷ codes "#define INCFILE \"versN.h\"" ∷ codes "#endif" ∷ codes "#include INCFILE" ∷ [])) ∷ (codes "vers2.h", text (codes "v" ∷ [])) ∷ []) ≡ record {
+  finals = (codes "v", 0) ∷ [];
+  opened = codes "a.c" ∷ codes "vers2.h" ∷ [];
+  looked = codes "a.c" ∷ codes "vers2.h" ∷ [];
+  end = None;
+}
+unfolding preprocessed expand is_built_in lexed cells cut longest part_of token_kind one.is_punctuator one.punctuators unsigned_suffixes plain_suffixes
+the_standards_versions = refl
+
+a_guard_ends_a_header_in_itself : run ((codes "a.c", text (codes "#include \"h.h\"" ∷ [])) ∷ (codes "h.h", text (codes "#ifndef H" ∷ codes "#define H" ∷ codes "#include \"h.h\"" ∷ codes "1" ∷ codes "#endif" ∷ [])) ∷ []) ≡ record {
+  finals = (codes "1", 35) ∷ [];
+  opened = codes "a.c" ∷ codes "h.h" ∷ codes "h.h" ∷ [];
+  looked = codes "a.c" ∷ codes "h.h" ∷ codes "h.h" ∷ [];
+  end = None;
+}
+unfolding preprocessed expand is_built_in lexed cells cut longest part_of token_kind one.is_punctuator one.punctuators unsigned_suffixes plain_suffixes
+a_guard_ends_a_header_in_itself = refl
