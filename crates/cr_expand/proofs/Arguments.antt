@@ -47,7 +47,7 @@ module _ (names new : List Text) (macros : Macros) (old now : Machine) (more : L
   T = table_of names macros (text_of names old.file)
 
   pub wrong_use : (law : FollowsTheRules) (h : Held) (rest : List Slot) (cause : Cause) → old.slots.items ≡ slot.Token h ∷ rest → use_of T (held names old.sets h) (current (front names old.sets rest more)) ≡ Wrong cause
-      → still names macros old more ≡ Stopped cause
+      → still names macros old more ≡ Stopped cause []
   wrong_use law h rest cause e u =
       still_old names new macros old now more mach known g k file _ (Stands (held names old.sets h) ∷ front names old.sets rest more) refl (front_old names new macros old now more mach known g k file (slot.Token h) rest e)
       ∙ goes_wrong T law (waiting names macros old.sets old.frames.items) (held names old.sets h) (front names old.sets rest more) cause (LIMIT - old.used) u

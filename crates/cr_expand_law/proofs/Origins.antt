@@ -18,18 +18,18 @@ use Rattle.cr_expand_law.specs.Origins.{Passes, AllPass, BodiesPass, KeepsOrigin
 -- work that gives what has a property, if it gives something
 abbrev GivesOnly : {A : Type 0} → (A → Type 0) → Answer A → Type 0
 GivesOnly P (Gave a left events) = P a
-GivesOnly P (Stopped cause) = Unit {0}
+GivesOnly P (Stopped cause stopped) = Unit {0}
 
 record Gives {A : Type 0} (P : A → Type 0) (m : Work A) : Type 0 where
   at : (left : ℕ) → GivesOnly P (m left)
 
 only_after : {A : Type 0} (P : A → Type 0) (events : List Event) (p : Answer A) → GivesOnly P p → GivesOnly P (after events p)
 only_after P events (Gave a left more) h = h
-only_after P events (Stopped cause) h = tt
+only_after P events (Stopped cause stopped) h = tt
 
 only_then : {A B : Type 0} (P : A → Type 0) (Q : B → Type 0) (p : Answer A) (f : A → Work B) → GivesOnly P p → ((a : A) → P a → Gives Q (f a)) → GivesOnly Q (then_do p f)
 only_then P Q (Gave a left events) f h k = only_after Q events (f a left) ((k a h).at left)
-only_then P Q (Stopped cause) f h k = tt
+only_then P Q (Stopped cause stopped) f h k = tt
 
 gives_then : {A B : Type 0} (P : A → Type 0) (Q : B → Type 0) (m : Work A) (f : A → Work B) → Gives P m → ((a : A) → P a → Gives Q (f a)) → Gives Q (m >>= f)
 gives_then P Q m f h k = record { at = λ left. only_then P Q (m left) f (h.at left) k }
@@ -42,7 +42,7 @@ gives_note P events a h = record { at = λ left. h }
 
 gives_pay : {A : Type 0} (P : A → Type 0) (n : ℕ) (a : A) → P a → Gives P (pay n a)
 gives_pay {A} P n a h = record { at = λ left. go left (nat_lt left n) } where
-  go : (left : ℕ) (b : Bool) → GivesOnly P (cond b (Stopped Over) (Gave a (left - n) (Rule ∷ [])))
+  go : (left : ℕ) (b : Bool) → GivesOnly P (cond b (Stopped Over []) (Gave a (left - n) (Rule ∷ [])))
   go left true = tt
   go left false = h
 

@@ -31,11 +31,11 @@ renaming = record { is_place = λ place. place.offset == 20 || place.offset == 3
 
 abbrev texts : Answer (List Token) → List Text
 texts (Gave ts left events) = map {A = Token} (λ t. t.text) ts
-texts (Stopped cause) = []
+texts (Stopped cause stopped) = []
 
 abbrev events_of : Answer (List Token) → List Event
 events_of (Gave ts left events) = events
-events_of (Stopped cause) = []
+events_of (Stopped cause stopped) = []
 
 before : texts (expand table call 100) ≡ codes "foo" ∷ codes "foo" ∷ []
 unfolding expand

@@ -105,7 +105,7 @@ module _ (f g : List Token → Task Nothing) where
     small false left n m h l = omega arith
 
     go : (p : Answer (List Token)) → Pays s.work (is_given u) p → go_on (from_answer s p) (λ ts. run_on f (is_given u) ts (left_behind rest u)) ≡ go_on (from_answer s p) (λ ts. run_on g (is_given u) ts (left_behind rest u))
-    go (Stopped why) h = refl
+    go (Stopped why stopped) h = refl
     go (Gave ts left tellings) h =
         ap (behind (map Told tellings)) (on_agree (is_given u) ts (left_behind rest u) (record s { work = left }) (s.work + suc (length rest)) (small (is_given u) left (length ts) (length (left_behind rest u)) h (behind_within rest u (use_within table t rest))) k)
 

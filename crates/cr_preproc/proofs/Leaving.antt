@@ -14,18 +14,18 @@ use Rattle.cr_macros.specs.Uses.{put_for, is_given}
 
 abbrev pub AtMost : {A : Type 0} → ℕ → Answer A → Type 0
 AtMost n (Gave a left events) = left ≤ n
-AtMost n (Stopped cause) = Unit {0}
+AtMost n (Stopped cause stopped) = Unit {0}
 
 pub record Leaves {A : Type 0} (m : Work A) : Type 0 where
   pub at : (left : ℕ) → AtMost left (m left)
 
 most_after : {A : Type 0} (n k : ℕ) (events : List Event) (p : Answer A) → k ≤ n → AtMost k p → AtMost n (after events p)
 most_after n k events (Gave a left more) h l = omega arith
-most_after n k events (Stopped cause) h l = tt
+most_after n k events (Stopped cause stopped) h l = tt
 
 most_then : {A B : Type 0} (n : ℕ) (p : Answer A) (f : A → Work B) → AtMost n p → ((a : A) → Leaves (f a)) → AtMost n (then_do p f)
 most_then n (Gave a left events) f h k = most_after n left events (f a left) h ((k a).at left)
-most_then n (Stopped cause) f h k = tt
+most_then n (Stopped cause stopped) f h k = tt
 
 leaves_then : {A B : Type 0} (m : Work A) (f : A → Work B) → Leaves m → ((a : A) → Leaves (f a)) → Leaves (m >>= f)
 leaves_then m f h k = record { at = λ left. most_then left (m left) f (h.at left) k }
@@ -41,7 +41,7 @@ leaves_fail cause = record { at = λ left. tt }
 
 leaves_pay : {A : Type 0} (n : ℕ) (a : A) → Leaves (pay n a)
 leaves_pay {A} n a = record { at = λ left. go left (nat_lt left n) } where
-  go : (left : ℕ) (b : Bool) → AtMost left (cond b (Stopped Over) (Gave a (left - n) (Rule ∷ [])))
+  go : (left : ℕ) (b : Bool) → AtMost left (cond b (Stopped Over []) (Gave a (left - n) (Rule ∷ [])))
   go left true = tt
   go left false = omega arith
 
@@ -132,25 +132,25 @@ leaves_expand table ts = record { at = λ left. (leaves_within (suc (left + leng
 -- what a use leaves: less than there was by its tokens, where they are expanded again
 abbrev pub Pays : ℕ → Bool → Answer (List Token) → Type 0
 Pays n given (Gave ts left events) = cond given left (left + length ts + 1) ≤ n
-Pays n given (Stopped cause) = Unit {0}
+Pays n given (Stopped cause stopped) = Unit {0}
 
 pays_after : (n k : ℕ) (given : Bool) (events : List Event) (p : Answer (List Token)) → k ≤ n → Pays k given p → Pays n given (after events p)
 pays_after n k given events (Gave ts left more) h l = omega arith
-pays_after n k given events (Stopped cause) h l = tt
+pays_after n k given events (Stopped cause stopped) h l = tt
 
 pays_then : {A : Type 0} (n : ℕ) (given : Bool) (p : Answer A) (f : A → Work (List Token)) → AtMost n p → ((a : A) (left : ℕ) → Pays left given (f a left)) → Pays n given (then_do p f)
 pays_then n given (Gave a left events) f h k = pays_after n left given events (f a left) h (k a left)
-pays_then n given (Stopped cause) f h k = tt
+pays_then n given (Stopped cause stopped) f h k = tt
 
 pays_put : (ts : List Token) (left : ℕ) → Pays left false (put_in ts left)
 pays_put ts left = go (nat_lt left (1 + length ts)) refl where
-  go : (b : Bool) → nat_lt left (1 + length ts) ≡ b → Pays left false (cond b (Stopped Over) (Gave ts (left - (1 + length ts)) (Rule ∷ [])))
+  go : (b : Bool) → nat_lt left (1 + length ts) ≡ b → Pays left false (cond b (Stopped Over []) (Gave ts (left - (1 + length ts)) (Rule ∷ [])))
   go true e = tt
   go false e = let k : 1 + length ts ≤ left = grind (arith, nat_tests) in omega arith
 
 most_pays : (n : ℕ) (p : Answer (List Token)) → AtMost n p → Pays n true p
 most_pays n (Gave ts left events) h = h
-most_pays n (Stopped cause) h = tt
+most_pays n (Stopped cause stopped) h = tt
 
 pub put_pays : (table : Table) (t : Token) (u : Use) (left : ℕ) → Pays left (is_given u) (put_for table t u left)
 put_pays table t Keep left = omega arith

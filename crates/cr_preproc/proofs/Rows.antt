@@ -783,3 +783,8 @@ a_guard_ends_a_header_in_itself : run ((codes "a.c", text (codes "#include \"h.h
 }
 unfolding preprocessed expand is_built_in lexed cells cut longest part_of token_kind one.is_punctuator one.punctuators unsigned_suffixes plain_suffixes
 a_guard_ends_a_header_in_itself = refl
+
+-- where a call fails, the steps inside its arguments were made: 24 tokens are taken, and one is given
+steps_before_a_fault : steps (events_of (preprocessed (world (one_file (codes "#define C(a) a##/" ∷ codes "#define f(x) x" ∷ codes "f(1 C(+))" ∷ []))) the_unit)) ≡ 25
+unfolding preprocessed expand is_built_in lexed cells cut longest part_of token_kind one.is_punctuator one.punctuators unsigned_suffixes plain_suffixes
+steps_before_a_fault = refl

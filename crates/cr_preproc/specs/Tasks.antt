@@ -106,7 +106,7 @@ end_of MacrosOver = Over Macros
 
 abbrev pub from_answer : {A : Type 0} → State → Answer A → Reply A
 from_answer s (Gave a left events) = Goes a (record s { work = left }) (map Told events)
-from_answer s (Stopped why) = Ends (end_of why) []
+from_answer s (Stopped why events) = Ends (end_of why) (map Told events)
 
 -- work of macro expansion
 abbrev pub does : {A : Type 0} → Work A → Task A

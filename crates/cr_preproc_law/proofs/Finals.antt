@@ -153,7 +153,7 @@ module _ (test : Origin → Bool) (made_passes : test Made ≡ true) where
   keeps_expands : (path : Text) (ts : List Token) → Keeps Any (expands path ts)
   keeps_expands path ts = record { at = λ s good. go s good (expand (table_in path s) ts s.work) } where
     go : (s : State) → Good s → (p : Answer (List Token)) → ReplyKeeps {A = List Token} Any (from_answer s p)
-    go s good (Stopped why) = tt
+    go s good (Stopped why stopped) = tt
     go s good (Gave out left tellings) = (tt, still s left s.reading s.room good, told_pass tellings)
 
   module _ (uses_keep : UsesKeepOrigins) where
@@ -167,7 +167,7 @@ module _ (test : Origin → Bool) (made_passes : test Made ≡ true) where
       keeps_rules (t ∷ rest) h = record { at = λ s good. by_put s good (put_for table t (use_of table t rest) s.work) refl } where
         by_put : (s : State) → Good s → (p : Answer (List Token)) → put_for table t (use_of table t rest) s.work ≡ p
             → ReplyKeeps {A = Nothing} Any (go_on (from_answer s p) (λ ts. run_on go (is_given (use_of table t rest)) ts (left_behind rest (use_of table t rest))))
-        by_put s good (Stopped why) e = tt
+        by_put s good (Stopped why stopped) e = tt
         by_put s good (Gave ts left tellings) e =
             let kept = uses_keep test table t rest ts s.work left tellings made_passes bodies h.0 h.1 e in
             keeps_behind Any (map Told tellings) (run_on go (is_given (use_of table t rest)) ts (left_behind rest (use_of table t rest)) (record s { work = left })) (told_pass tellings)

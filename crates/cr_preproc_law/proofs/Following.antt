@@ -135,7 +135,7 @@ module _ (r : Renaming) (not_reserved : is_reserved r.new ≡ false) (keeps_expa
   sim_expands path ts = record { at = λ s good. go s good (expand (table_in path s) ts s.work) refl } where
     go : (s : State) → Good r s → (p : Answer (List Token)) → expand (table_in path s) ts s.work ≡ p
         → Follows r (all_renamed r) (from_answer s p) (from_answer (renamed_state r s) (expand (table_in path (renamed_state r s)) (all_renamed r ts) s.work))
-    go s good (Stopped why) e = tt
+    go s good (Stopped why stopped) e = tt
     go s good (Gave out left tellings) e = λ fine. (
       ap (from_answer (renamed_state r s)) (keeps_expansion r (table_in path s) ts out s.work left tellings (free path s good) e (fine_told r tellings fine))
           ∙ ap (Goes (all_renamed r out) (renamed_state r (record s { work = left }))) (told_renamed r tellings),
@@ -180,7 +180,7 @@ module _ (r : Renaming) (not_reserved : is_reserved r.new ≡ false) (keeps_expa
 
       by_put : (s : State) → Good r s → (p : Answer (List Token)) → put_for table t u s.work ≡ p
           → Follows r same (with_put s go (is_given u) (left_behind rest u) p) (with_put (renamed_state r s) go1 (is_given u1) (left_behind (all_renamed r rest) u1) (put_for table1 (renamed r t) u1 s.work))
-      by_put s good (Stopped why) e = tt
+      by_put s good (Stopped why stopped) e = tt
       by_put s good (Gave ts left tellings) e =
           only_harmless s tellings (run_on go (is_given u) ts (left_behind rest u) (record s { work = left })) (with_put (renamed_state r s) go1 (is_given u1) (left_behind (all_renamed r rest) u1) (put_for table1 (renamed r t) u1 s.work))
           (λ harmless.
