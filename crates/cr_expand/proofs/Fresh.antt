@@ -93,3 +93,10 @@ fed_machine names macros old now fed (hide, k, e, s) a b c d n t m = record {
 pub fed_runs : (names : List Text) (macros : Macros) (old now : Machine) (o : Option ExpandFault) → (IsMachine names macros old → IsMachine names macros now) → runs_by names macros old o → runs_by names macros now o
 fed_runs names macros old now None f k = f k
 fed_runs names macros old now (Some x) f k = tt
+
+-- that no more comes changes nothing that is held
+pub finished_runs : (names : List Text) (macros : Macros) (m now : Machine) (o : Option ExpandFault) → now ≡ record m { finished = true } → runs_by names macros m o → runs_by names macros now o
+finished_runs names macros m now o e k = subst (λ n. runs_by names macros n o) (sym e) (by o k) where
+  by : (o : Option ExpandFault) → runs_by names macros m o → runs_by names macros (record m { finished = true }) o
+  by None k = record { tables = k.tables; slots = k.slots; calls = k.calls; watched = k.watched; file = k.file; ends = k.ends; limit = k.limit }
+  by (Some x) k = tt

@@ -1,7 +1,8 @@
 //! The machine of macro expansion, which is fed and stepped.
 ghost use Rattle.std.specs.Prelude.{◌≡◌, ◌<◌, ◌≤◌, ◌^◌, ◌++◌, [], List, OnOk, OnErr, IfOk, IfErr, Some, None, Err, length, map, true, false};
 ghost use Rattle.cr_macros.specs.declared.fault.ExpandFault.{ExpandFault as TheFault};
-ghost use Rattle.cr_macros.specs.Tokens.{Token};
+ghost use Rattle.cr_macros.specs.Tokens.{Text, Token};
+ghost use Rattle.cr_macros.specs.MacroTables.{Macros};
 ghost use Rattle.cr_expand.specs.Held.{Faults};
 ghost use Rattle.cr_expand.specs.Feeding.{IsPutBack};
 ghost use Rattle.cr_expand.specs.Machines.{AreMacros, IsStep, IsWantedAt, IsSameRun};
@@ -122,7 +123,8 @@ impl Expander {
 
     /// Says that no more is fed.
     pub fn finish(&mut self)
-        ensures { self.new ≡ record self.old { machine = record self.old.machine { finished = true } } }
+        ensures running { (names : List Text) (macros : Macros) → IsRunning names macros self.old → IsRunning names macros self.new }
+        ensures finished { self.new ≡ record self.old { machine = record self.old.machine { finished = true } } }
     {
         self.machine.finished = true;
     }
