@@ -58,13 +58,13 @@ pub fed_gives : (names : List Text) (macros : Macros) (old now : Machine) (fed :
     → now.sets ≡ old.sets → now.frames.items ≡ old.frames.items → now.file ≡ old.file → now.used ≡ old.used → still names macros now more ≡ still names macros old (tokens_of names fed ++ more)
 fed_gives names macros old now fed more (hide, k, e, s) a b c d =
     rw (a, b, c, d, ap (λ l. front names old.sets l more) s ∙ fronts) refl where
-  fronts : front names old.sets (old.slots.items ++ tokens (all_with hide fed)) more ≡ front names old.sets old.slots.items (tokens_of names fed ++ more)
-  fronts =
-      ap (λ ps. ps ++ before more []) (map-append _ old.slots.items (tokens (all_with hide fed)))
-      ∙ append_assoc (pieces names old.sets old.slots.items) (pieces names old.sets (tokens (all_with hide fed))) (before more [])
-      ∙ ap (λ ps. pieces names old.sets old.slots.items ++ ps) (
-        ap (λ l. pieces names old.sets l ++ before more []) (sym (append-nil (tokens (all_with hide fed)))) ∙ front_tokens names old.sets (all_with hide fed) [] more
-        ∙ ap (λ ts. before ts (before more [])) (all_unhidden names old.sets hide fed e) ∙ sym (before_more (tokens_of names fed) more))
+      fronts : front names old.sets (old.slots.items ++ tokens (all_with hide fed)) more ≡ front names old.sets old.slots.items (tokens_of names fed ++ more)
+      fronts =
+          ap (λ ps. ps ++ before more []) (map-append _ old.slots.items (tokens (all_with hide fed)))
+          ∙ append_assoc (pieces names old.sets old.slots.items) (pieces names old.sets (tokens (all_with hide fed))) (before more [])
+          ∙ ap (λ ps. pieces names old.sets old.slots.items ++ ps) (
+          ap (λ l. pieces names old.sets l ++ before more []) (sym (append-nil (tokens (all_with hide fed)))) ∙ front_tokens names old.sets (all_with hide fed) [] more
+          ∙ ap (λ ts. before ts (before more [])) (all_unhidden names old.sets hide fed e) ∙ sym (before_more (tokens_of names fed) more))
 
 all_with_known : (names : List Text) (sets : Sets) (hide : HideSet) (fed : List PpTok) → hide.0 < length sets → All (IsTokenNamed names) fed → AreKnown names sets (all_with hide fed)
 all_with_known names sets hide [] k a = All-nil (IsKnown names sets)
@@ -82,7 +82,7 @@ pub fed_machine : (names : List Text) (macros : Macros) (old now : Machine) (fed
 fed_machine names macros old now fed (hide, k, e, s) a b c d n t m = record {
   tables = subst (AreTables names) (sym a) m.tables;
   slots = subst (λ z. AreSlotsKnown names z now.slots.items) (sym a) (subst (AreSlotsKnown names old.sets) (sym s)
-    (All-append (IsSlotKnown names old.sets) old.slots.items (tokens (all_with hide fed)) m.slots (tokens_known names old.sets (all_with hide fed) (all_with_known names old.sets hide fed k t))));
+      (All-append (IsSlotKnown names old.sets) old.slots.items (tokens (all_with hide fed)) m.slots (tokens_known names old.sets (all_with hide fed) (all_with_known names old.sets hide fed k t))));
   calls = subst (λ z. All (IsCallKnown names macros z) now.frames.items) (sym a) (subst (λ f. All (IsCallKnown names macros old.sets) f.items) (sym b) m.calls);
   watched = subst (λ x. IsNamed names x.from × IsNamed names x.to) (sym n) m.watched;
   file = subst (IsNamed names) (sym c) m.file;

@@ -14,8 +14,14 @@ use Rattle.cr_macros.specs.Expansion.{into_first, parted}
 use Rattle.cr_expand.specs.HideSets.{Sets}
 use Rattle.cr_expand.specs.Held.{held, all_held, all_args}
 use Rattle.cr_expand.specs.Slots.{tokens, ended}
-use Rattle.cr_expand.specs.Calls.{part_at, IsTokenAt, IsCallAt, IsAmong, ArePartedAt}
+use Rattle.cr_expand.specs.Calls.{part_at, IsTokenAt, IsCallAt, IsAmong, ArePartedAt, AreKeptAt}
+use Rattle.cr_expand.specs.Wanted.{kept, all_kept, kept_more}
 use Rattle.cr_expand.specs.Partings.{lists_of, IsTaken}
+use Rattle.cr_expand.proofs.Wholes.{kept_none, kept_one_more, all_kept_last, length_all_kept}
+
+length_map : {A B : Type 0} (f : A → B) (xs : List A) → length (map f xs) ≡ length xs
+length_map f [] = refl
+length_map f (x ∷ xs) = ap suc (length_map f xs)
 
 -- tokens at the front of the first list
 abbrev pub onto : List Token → Args → Args
@@ -60,7 +66,7 @@ parting_stays : (names : List Text) (n : ℕ) (before : List Held) (lists : List
 parting_stays names n before lists list commas depth d h e k = λ sets ts.
     ap (parted n 0) (all_held_more names sets before h ts) ∙ k sets (held names sets h ∷ ts)
     ∙ ap (λ a. all_args names sets lists ++ onto (all_held names sets list) a)
-      (parted_at commas depth (held names sets h) ts ∙ ap (λ o. by_part commas (held names sets h) ts o depth) (e sets))
+    (parted_at commas depth (held names sets h) ts ∙ ap (λ o. by_part commas (held names sets h) ts o depth) (e sets))
     ∙ ap (λ a. all_args names sets lists ++ a) (onto_more (all_held names sets list) (held names sets h) (parted commas d ts))
     ∙ ap (λ l. all_args names sets lists ++ onto l (parted commas d ts)) (sym (map-append (λ x. held names sets x) list (h ∷ [])))
 
@@ -70,7 +76,7 @@ parting_parts : (names : List Text) (n : ℕ) (before : List Held) (lists : List
 parting_parts names n before lists list commas depth h e k = λ sets ts.
     ap (parted n 0) (all_held_more names sets before h ts) ∙ k sets (held names sets h ∷ ts)
     ∙ ap (λ a. all_args names sets lists ++ onto (all_held names sets list) a)
-      (parted_at commas depth (held names sets h) ts ∙ ap (λ o. by_part commas (held names sets h) ts o depth) (e sets))
+    (parted_at commas depth (held names sets h) ts ∙ ap (λ o. by_part commas (held names sets h) ts o depth) (e sets))
     ∙ ap (λ a. all_args names sets lists ++ a) (onto_new (all_held names sets list) (parted (commas - 1) depth ts))
     ∙ sym (append_assoc (all_args names sets lists) (all_held names sets list ∷ []) (parted (commas - 1) depth ts))
     ∙ ap (λ l. l ++ parted (commas - 1) depth ts) (sym (map-append (all_held names sets) lists (list ∷ [])))
@@ -144,20 +150,24 @@ module _ (names : List Text) (n : ℕ) (slots : List Slot) (i : ℕ) (lists : Li
   here_stays h d lt g e (before, [], p, q, r, s, t, u, v) = let l = ap length p in let m = length-append before [] in absurd (omega (arith, l, m, f, lt))
   here_stays h d lt g e (before, x ∷ left, p, q, r, s, t, u, v) =
       let same : slot.Token x ≡ slot.Token h = by (sym (at_token before left x q r s) ∙ g) in
-      let w : x ≡ h = token_same x h same in
-      (before ++ h ∷ [], left,
+      let w : x ≡ h = token_same x h same in (
+        before ++ h ∷ [],
+        left,
         more_of before left h (p ∙ ap (λ y. before ++ y ∷ left) w),
         (let l = longer before h in omega (arith, l)),
         ap length (ap (λ l. ended lists ++ l) (tokens_append list (h ∷ [])) ∙ sym (append_assoc (ended lists) (tokens list) (slot.Token h ∷ []))) ∙ length-append (ended lists ++ tokens list) (slot.Token h ∷ []) ∙ ap (λ k. k + 1) r ∙ sym (longer before h),
         s ∙ ap (λ y. a ∷ b ∷ ((ended lists ++ tokens list) ++ (y ∷ (tokens left ++ end ∷ rest)))) same
-          ∙ ap (λ l. a ∷ b ∷ l) (sym (append_assoc (ended lists ++ tokens list) (slot.Token h ∷ []) (tokens left ++ end ∷ rest))
+            ∙ ap (λ l. a ∷ b ∷ l) (sym (append_assoc (ended lists ++ tokens list) (slot.Token h ∷ []) (tokens left ++ end ∷ rest))
             ∙ ap (λ l. l ++ (tokens left ++ end ∷ rest)) (append_assoc (ended lists) (tokens list) (slot.Token h ∷ []) ∙ ap (λ l. ended lists ++ l) (sym (tokens_append list (h ∷ []))))),
-        parting_stays names n before lists list commas depth d h e t, u,
-        All-append (IsAmong inside) list (h ∷ []) v (All-cons (IsAmong inside) h [] (among before left h (p ∙ ap (λ y. before ++ y ∷ left) w)) (All-nil (IsAmong inside)))) where
-    by : {x y : Slot} → Some x ≡ Some y → x ≡ y
-    by e = cc
-    token_same : (x y : Held) → slot.Token x ≡ slot.Token y → x ≡ y
-    token_same x y e = cc
+        parting_stays names n before lists list commas depth d h e t,
+        u,
+        All-append (IsAmong inside) list (h ∷ []) v (All-cons (IsAmong inside) h [] (among before left h (p ∙ ap (λ y. before ++ y ∷ left) w)) (All-nil (IsAmong inside))),
+      ) where
+        by : {x y : Slot} → Some x ≡ Some y → x ≡ y
+        by e = cc
+
+        token_same : (x y : Held) → slot.Token x ≡ slot.Token y → x ≡ y
+        token_same x y e = cc
 
   pub here_parts : (h : Held) → i < close → slice_get slots i ≡ Some (slot.Token h) → ((sets : Sets) → part_at commas depth (held names sets h) ≡ None) → Here
       → PartedHere names n (set slots i slot.End) (i + 1) (lists ++ list ∷ []) [] (commas - 1) depth a b end inside rest
@@ -165,33 +175,38 @@ module _ (names : List Text) (n : ℕ) (slots : List Slot) (i : ℕ) (lists : Li
   here_parts h lt g e (before, x ∷ left, p, q, r, s, t, u, v) =
       let same : slot.Token x ≡ slot.Token h = by (sym (at_token before left x q r s) ∙ g) in
       let w : x ≡ h = token_same x h same in
-      let grown : (ended lists ++ tokens list) ++ slot.End ∷ [] ≡ ended (lists ++ list ∷ []) ++ [] = append_assoc (ended lists) (tokens list) (slot.End ∷ []) ∙ sym (ended_more lists list) ∙ sym (append-nil (ended (lists ++ list ∷ []))) in
-      (before ++ h ∷ [], left,
+      let grown : (ended lists ++ tokens list) ++ slot.End ∷ [] ≡ ended (lists ++ list ∷ []) ++ [] = append_assoc (ended lists) (tokens list) (slot.End ∷ []) ∙ sym (ended_more lists list) ∙ sym (append-nil (ended (lists ++ list ∷ []))) in (
+        before ++ h ∷ [],
+        left,
         more_of before left h (p ∙ ap (λ y. before ++ y ∷ left) w),
         (let l = longer before h in omega (arith, l)),
         ap length (sym grown) ∙ length-append (ended lists ++ tokens list) (slot.End ∷ []) ∙ ap (λ k. k + 1) r ∙ sym (longer before h),
         ap (λ l. set l i slot.End) s
-          ∙ ap (λ k. set (a ∷ b ∷ ((ended lists ++ tokens list) ++ (slot.Token x ∷ (tokens left ++ end ∷ rest)))) k slot.End) (let y : i ≡ suc (suc (length (ended lists ++ tokens list))) = omega arith in y)
-          ∙ ap (λ l. a ∷ b ∷ l) (set_mid (ended lists ++ tokens list) (slot.Token x) slot.End (tokens left ++ end ∷ rest)
+            ∙ ap (λ k. set (a ∷ b ∷ ((ended lists ++ tokens list) ++ (slot.Token x ∷ (tokens left ++ end ∷ rest)))) k slot.End) (let y : i ≡ suc (suc (length (ended lists ++ tokens list))) = omega arith in y)
+            ∙ ap (λ l. a ∷ b ∷ l) (set_mid (ended lists ++ tokens list) (slot.Token x) slot.End (tokens left ++ end ∷ rest)
             ∙ sym (append_assoc (ended lists ++ tokens list) (slot.End ∷ []) (tokens left ++ end ∷ rest)) ∙ ap (λ l. l ++ (tokens left ++ end ∷ rest)) grown),
         parting_parts names n before lists list commas depth h e t,
-        All-append (All (IsAmong inside)) lists (list ∷ []) u (All-cons (All (IsAmong inside)) list [] v (All-nil (All (IsAmong inside)))), All-nil (IsAmong inside)) where
-    by : {x y : Slot} → Some x ≡ Some y → x ≡ y
-    by e = cc
-    token_same : (x y : Held) → slot.Token x ≡ slot.Token y → x ≡ y
-    token_same x y e = cc
+        All-append (All (IsAmong inside)) lists (list ∷ []) u (All-cons (All (IsAmong inside)) list [] v (All-nil (All (IsAmong inside)))),
+        All-nil (IsAmong inside),
+      ) where
+        by : {x y : Slot} → Some x ≡ Some y → x ≡ y
+        by e = cc
+
+        token_same : (x y : Held) → slot.Token x ≡ slot.Token y → x ≡ y
+        token_same x y e = cc
 
   pub here_ends : i ≡ close → Here → ArePartedAt names n a b inside rest (lists ++ list ∷ []) (set slots i slot.End)
   here_ends c (before, x ∷ left, p, q, r, s, t, u, v) = let l = ap length p in let m = length-append before (x ∷ left) in absurd (omega (arith, l, m, f, c))
-  here_ends c (before, [], p, q, r, s, t, u, v) =
-      (ap (λ l. set l i slot.End) s
+  here_ends c (before, [], p, q, r, s, t, u, v) = (
+    ap (λ l. set l i slot.End) s
         ∙ ap (λ k. set (a ∷ b ∷ ((ended lists ++ tokens list) ++ end ∷ rest)) k slot.End) (let y : i ≡ suc (suc (length (ended lists ++ tokens list))) = omega arith in y)
         ∙ ap (λ l. a ∷ b ∷ l) (set_mid (ended lists ++ tokens list) end slot.End rest
-          ∙ sym (append_assoc (ended lists ++ tokens list) (slot.End ∷ []) rest) ∙ ap (λ l. l ++ rest) (append_assoc (ended lists) (tokens list) (slot.End ∷ []) ∙ sym (ended_more lists list))),
-       parting_ends names n inside lists list commas depth (subst (λ l. IsParting names n l lists list commas depth) (sym (p ∙ append-nil before)) t),
-       All-append (All (IsAmong inside)) lists (list ∷ []) u (All-cons (All (IsAmong inside)) list [] v (All-nil (All (IsAmong inside)))),
-       ap length (ended_more lists list ∙ sym (append_assoc (ended lists) (tokens list) (slot.End ∷ []))) ∙ length-append (ended lists ++ tokens list) (slot.End ∷ [])
-         ∙ (let l = ap length p in let m = length-append before [] in let x : length (ended lists ++ tokens list) + 1 ≡ suc (length inside) = omega (arith, r, l, m) in x))
+        ∙ sym (append_assoc (ended lists ++ tokens list) (slot.End ∷ []) rest) ∙ ap (λ l. l ++ rest) (append_assoc (ended lists) (tokens list) (slot.End ∷ []) ∙ sym (ended_more lists list))),
+    parting_ends names n inside lists list commas depth (subst (λ l. IsParting names n l lists list commas depth) (sym (p ∙ append-nil before)) t),
+    All-append (All (IsAmong inside)) lists (list ∷ []) u (All-cons (All (IsAmong inside)) list [] v (All-nil (All (IsAmong inside)))),
+    ap length (ended_more lists list ∙ sym (append_assoc (ended lists) (tokens list) (slot.End ∷ []))) ∙ length-append (ended lists ++ tokens list) (slot.End ∷ [])
+        ∙ (let l = ap length p in let m = length-append before [] in let x : length (ended lists ++ tokens list) + 1 ≡ suc (length inside) = omega (arith, r, l, m) in x),
+  )
 
   -- the place is one of the slots
   pub here_within : i ≤ close → Here → i < length slots
@@ -211,20 +226,44 @@ pub within_here : (names : List Text) (n : ℕ) (initial slots : List Slot) (clo
 within_here names n initial slots close i lists list commas depth (a, b, end, inside, rest, e, f) le k =
     here_within names n slots i lists list commas depth a b end inside rest close f le (k a b end inside rest e f)
 
-pub parted_more : (names : List Text) (n : ℕ) (initial slots slots2 : List Slot) (close i : ℕ) (old new : Parting) (parts : Bool) (h : Held)
-    → i < close → slice_get slots i ≡ Some (slot.Token h) → IsTaken names h old new parts → slots2 ≡ (if parts then set slots i slot.End else slots)
-    → IsPartedTo names n initial slots close i (lists_of old) old.list.items old.commas old.depth
-    → IsPartedTo names n initial slots2 close (i + 1) (lists_of new) new.list.items new.commas new.depth
-parted_more names n initial slots slots2 close i old new true h lt g t e k = λ a b end inside rest x f.
-    rw (e, t.1, t.2, t.3, t.4) (here_parts names n slots i (lists_of old) old.list.items old.commas old.depth a b end inside rest close f h lt g t.0 (k a b end inside rest x f))
-parted_more names n initial slots slots2 close i old new false h lt g t e k = λ a b end inside rest x f.
-    rw (e, t.1, t.2, t.3) (here_stays names n slots i (lists_of old) old.list.items old.commas old.depth a b end inside rest close f h new.depth lt g t.0 (k a b end inside rest x f))
+-- The same, where of the lists what is wanted is kept.
+abbrev pub IsKeptTo : List Text → ℕ → (ℕ → Bool) → List Slot → List Slot → ℕ → ℕ → List (List Held) → List Held → ℕ → ℕ → Type 0
+IsKeptTo names n whole initial slots close i lists list commas depth =
+    (all : List (List Held)) × (last : List Held) × IsPartedTo names n initial slots close i all last commas depth × (lists ≡ all_kept whole 0 all) × (list ≡ kept (whole (length all)) last)
+
+pub kept_first : (names : List Text) (n : ℕ) (whole : ℕ → Bool) (slots : List Slot) (close : ℕ) → IsKeptTo names n whole slots slots close 2 [] [] n 0
+kept_first names n whole slots close = ([], [], parted_first names n slots close, refl, sym (kept_none (whole 0)))
+
+length_lists : (p : Parting) (whole : ℕ → Bool) (all : List (List Held)) → lists_of p ≡ all_kept whole 0 all → length p.lists.items ≡ length all
+length_lists p whole all e = sym (length_map (λ v. v.items) p.lists.items) ∙ ap length e ∙ length_all_kept whole 0 all
+
+pub parted_more : (names : List Text) (n : ℕ) (whole : ℕ → Bool) (initial slots slots2 : List Slot) (close i : ℕ) (old new : Parting) (parts : Bool) (h : Held)
+    → i < close → slice_get slots i ≡ Some (slot.Token h) → IsTaken names whole h old new parts → slots2 ≡ (if parts then set slots i slot.End else slots)
+    → IsKeptTo names n whole initial slots close i (lists_of old) old.list.items old.commas old.depth
+    → IsKeptTo names n whole initial slots2 close (i + 1) (lists_of new) new.list.items new.commas new.depth
+parted_more names n whole initial slots slots2 close i old new true h lt g t e (all, last, k, p, q) = (
+  all ++ last ∷ [],
+  [],
+  (λ a b end inside rest x f. rw (e, t.3, t.4) (here_parts names n slots i all last old.commas old.depth a b end inside rest close f h lt g t.0 (k a b end inside rest x f))),
+  t.1 ∙ ap (λ l. l ++ old.list.items ∷ []) p ∙ ap (λ l. all_kept whole 0 all ++ l ∷ []) q ∙ sym (all_kept_last whole all last),
+  t.2 ∙ sym (kept_none (whole (length (all ++ last ∷ [])))),
+)
+parted_more names n whole initial slots slots2 close i old new false h lt g t e (all, last, k, p, q) = (
+  all,
+  last ++ h ∷ [],
+  (λ a b end inside rest x f. rw (e, t.3) (here_stays names n slots i all last old.commas old.depth a b end inside rest close f h new.depth lt g t.0 (k a b end inside rest x f))),
+  t.1 ∙ p,
+  t.2 ∙ ap (λ m. kept_more (whole m) old.list.items h) (length_lists old whole all p) ∙ ap (λ l. kept_more (whole (length all)) l h) q ∙ kept_one_more (whole (length all)) last h,
+)
 
 pub call_place : (initial : List Slot) (close : ℕ) → IsCallAt initial close → 2 ≤ close
 call_place initial close (a, b, end, inside, rest, e, f) = omega arith
 
-pub parted_ends : (names : List Text) (n : ℕ) (initial slots slots2 : List Slot) (close i : ℕ) (p : Parting) (lists : List (List Held)) → i ≡ close → slots2 ≡ set slots close slot.End → lists ≡ lists_of p ++ p.list.items ∷ []
-    → IsPartedTo names n initial slots close i (lists_of p) p.list.items p.commas p.depth
-    → (a b end : Slot) (inside : List Held) (rest : List Slot) → initial ≡ a ∷ b ∷ (tokens inside ++ end ∷ rest) → close ≡ 2 + length inside → ArePartedAt names n a b inside rest lists slots2
-parted_ends names n initial slots slots2 close i p lists c e g k a b end inside rest x f =
-    rw (e, g, sym c) (here_ends names n slots i (lists_of p) p.list.items p.commas p.depth a b end inside rest close f c (k a b end inside rest x f))
+pub parted_ends : (names : List Text) (n : ℕ) (whole : ℕ → Bool) (initial slots slots2 : List Slot) (close i : ℕ) (p : Parting) (lists : List (List Held)) → i ≡ close → slots2 ≡ set slots close slot.End → lists ≡ lists_of p ++ p.list.items ∷ []
+    → IsKeptTo names n whole initial slots close i (lists_of p) p.list.items p.commas p.depth
+    → (a b end : Slot) (inside : List Held) (rest : List Slot) → initial ≡ a ∷ b ∷ (tokens inside ++ end ∷ rest) → close ≡ 2 + length inside → AreKeptAt names n whole a b inside rest lists slots2
+parted_ends names n whole initial slots slots2 close i p lists c e g (all, last, k, u, v) a b end inside rest x f = (
+  all ++ last ∷ [],
+  rw (e, sym c) (here_ends names n slots i all last p.commas p.depth a b end inside rest close f c (k a b end inside rest x f)),
+  g ∙ ap (λ l. l ++ p.list.items ∷ []) u ∙ ap (λ l. all_kept whole 0 all ++ l ∷ []) v ∙ sym (all_kept_last whole all last),
+)

@@ -66,7 +66,8 @@ module _ (law : FollowsTheRules) (names new : List Text) (macros : Macros) (old 
   pub ended_step : (more : List Token) (o : Option ExpStep) → IsArgumentEnd names new macros old now rest o → IsTurnStep names new macros old now more o
   ended_step more None (cs, c, f, m, n, s, a, b, u, x) = (
     next_argument names new macros old now more mach known (subst (Grows names) (sym x) (grows_same names)) (same_sets old.sets now.sets a) same.2 law cs c rest e f m n s a u x,
-    b)
+    b,
+  )
   ended_step more (Some s) (cs, c, f, m, n, p, q) =
       is_more names new macros old now more s q (completes names new macros old now more mach known p.names_grow p.sets_grow same.2 law cs c rest e f m n p)
 
@@ -84,9 +85,9 @@ module _ (law : FollowsTheRules) (names new : List Text) (macros : Macros) (old 
 
   pub ended_fault : (more : List Token) (x : ExpandFault) → IsArgumentFault names macros old x → Faults (still names macros old more) x
   ended_fault more x f = elim f [
-      inl p ↦ rw p (no_memory (still names macros old more))
+    | inl p ↦ rw p (no_memory (still names macros old more))
     | inr p ↦ complete_faults names names macros old old more mach known (grows_same names) (grows_same old.sets) refl law p.0 p.1 rest x e p.2 p.3 p.4
-    ]
+  ]
 
 length_tokens : (hs : List Held) → length (tokens hs) ≡ length hs
 length_tokens [] = refl
