@@ -10,6 +10,7 @@ mod definitions;
 mod directive;
 mod evaluate;
 mod header;
+mod include;
 mod line;
 mod open_ifs;
 mod reader;
