@@ -25,7 +25,7 @@ pub macro_by_text : (names : List Text) (macros : Macros) (n : Name) → IsDisti
     → lookup (λ k. bytes_eq (text_of names n) (text_of names k)) macros ≡ macro_named n macros
 macro_by_text names [] n d h k = refl
 macro_by_text names (e ∷ es) n d h k =
-    ap (λ b. if b then Some e.1 else lookup (λ x. bytes_eq (text_of names n) (text_of names x)) es) (same_name names n e.0 d k (All-head (IsEntryKnown names) e es h).0)
+    ap (λ b. if b then Some e.1 else lookup (λ x. bytes_eq (text_of names n) (text_of names x)) es) (same_name names n e.0 d k (All-head (IsEntryKnown names) e es h))
     ∙ ap (λ o. if n.0 == e.0.0 then Some e.1 else o) (macro_by_text names es n d (All-tail (IsEntryKnown names) e es h) k)
 
 pub by_params : (names : List Text) (t : Token) (m : Macro) (rest : List Token) (params : Option (List Name))

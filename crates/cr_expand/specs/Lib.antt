@@ -5,3 +5,16 @@ pub mod Parts
 pub mod Pasting
 pub mod Placing
 pub mod Heading
+pub mod Running
+pub mod Slots
+pub mod Frames
+pub mod Calls
+pub mod Partings
+pub mod Turns
+pub mod Wanted
+pub mod Predefines
+pub mod Machines
+pub mod Hiding
+pub mod Feeding
+pub mod Expanders
+pub mod GoodMacros

@@ -6,7 +6,7 @@ ghost use Rattle.cr_macros.specs.Tokens.{Text, Token, token_of, is_ident, has};
 ghost use Rattle.cr_macros.specs.Definition.{text_of};
 ghost use Rattle.cr_macros.specs.MacroTables.{table_of};
 ghost use Rattle.cr_expand.specs.Held.{held, hidden, IsKnown, IsNamed, AreTables};
-ghost use Rattle.cr_expand.specs.Heading.{use_text, AreMacrosKnown};
+ghost use Rattle.cr_expand.specs.Heading.{use_text, AreMacrosKnown, IsLookedUp};
 
 use crate::held::Held;
 use crate::hide_sets::HideSets;
@@ -26,7 +26,8 @@ fn named<'a>(names: &NameTable, macros: &'a MacroTable, h: Held) -> Head<'a>
     requires distinct { IsDistinct names.now }
     requires macros { AreMacrosKnown names.now macros.now }
     requires token { IsNamed names.now h.token.text }
-    ensures { (file : Text) (hide : List Text) (rest : List Token) → spec.use_of_name (table_of names.now macros.now file) (token_of names.now hide h.token) rest (spec.predefined file h.token.line (text_of names.now h.token.text)) ≡ use_text names.now file (token_of names.now hide h.token) rest result }
+    ensures looked_up { IsLookedUp macros.now h.token.text result }
+    ensures means { (file : Text) (hide : List Text) (rest : List Token) → spec.use_of_name (table_of names.now macros.now file) (token_of names.now hide h.token) rest (spec.predefined file h.token.line (text_of names.now h.token.text)) ≡ use_text names.now file (token_of names.now hide h.token) rest result }
 {
     match predefined_named(text(names, h.token.text)) {
         Some(p) => Head::Predefined(p),
@@ -52,7 +53,8 @@ pub fn head_of<'a>(names: &NameTable, macros: &'a MacroTable, sets: &HideSets, h
     requires tables { AreTables names.now sets.now }
     requires macros { AreMacrosKnown names.now macros.now }
     requires token { IsKnown names.now sets.now h }
-    ensures { (file : Text) (rest : List Token) → spec.use_of (table_of names.now macros.now file) (held names.now sets.now h) rest ≡ use_text names.now file (held names.now sets.now h) rest result }
+    ensures looked_up { IsLookedUp macros.now h.token.text result }
+    ensures means { (file : Text) (rest : List Token) → spec.use_of (table_of names.now macros.now file) (held names.now sets.now h) rest ≡ use_text names.now file (held names.now sets.now h) rest result }
 {
     if is_kept(names, sets, h) {
         return Head::Stays;

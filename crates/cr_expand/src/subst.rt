@@ -35,7 +35,8 @@ fn argument_of(item: Item) -> Option<usize>
     }
 }
 
-fn mark(used: &mut Vec<bool>, number: Option<usize>)
+/// Marks the argument of this number.
+pub fn mark(used: &mut Vec<bool>, number: Option<usize>)
     ensures length { vec_len used.new ≡ vec_len used.old }
     ensures marked { (n : ℕ) → n < vec_len used.old → slice_index_or used.new.items n false ≡ (is_number n number || slice_index_or used.old.items n false) }
 {
@@ -46,7 +47,8 @@ fn mark(used: &mut Vec<bool>, number: Option<usize>)
     }
 }
 
-fn unmarked(alloc: Global, count: usize) -> Result<Vec<bool>, OutOfMemory>
+/// So many marks, none of them set.
+pub fn unmarked(alloc: Global, count: usize) -> Result<Vec<bool>, OutOfMemory>
     ensures { IfOk result (λ used. (vec_len used ≡ count) × ((n : ℕ) → slice_index_or used.items n false ≡ false)) }
 {
     let mut used = Vec::new(alloc);

@@ -1,0 +1,166 @@
+-- Steps of the machine, by the use of the head.
+use Rattle.std.proofs.Common.{◌≡◌, ℕ, suc, ◌+◌, ◌-◌, ◌<◌, ◌≤◌, Bool, List, [], ◌∷◌, ◌++◌, length, map, drop, reverse, refl, sym, ap, subst, ◌∙◌, arith, append_assoc, append-nil, Option, Some, None}
+use Rattle.std.specs.List.{All}
+use Rattle.std.proofs.lemmas.List.{map-append, reverse-append}
+use Rattle.std.proofs.lemmas.List.Elements.{All-head, All-tail, All-weaker, All-nil, All-cons, All-append}
+use Rattle.cr_base.specs.declared.token.PpKind.{PpKind}
+use Rattle.cr_base.specs.declared.cause.Role.TheVariants.{MacroName}
+use Rattle.cr_macros.specs.declared.macros.Macro.{Macro}
+use Rattle.cr_macros.specs.declared.macros.Seen.{Seen}
+use Rattle.cr_expand.specs.declared.held.Held.{Held}
+use Rattle.cr_expand.specs.declared.slot.Slot.{Slot}
+use Rattle.cr_expand.specs.declared.slot.Slot.TheVariants as slot
+use Rattle.cr_expand.specs.declared.machine.Machine.{Machine}
+use Rattle.cr_expand.specs.declared.machine.ExpStep.{ExpStep}
+use Rattle.cr_expand.specs.declared.machine.ExpStep.TheVariants as step
+use Rattle.cr_expand.specs.declared.machine.TheConstants.{LIMIT}
+use Rattle.cr_macros.specs.Tokens.{Text, Token, token_of, Event, Rule, takes, with_name}
+use Rattle.cr_macros.specs.Substitution.{made}
+use Rattle.cr_macros.specs.Definition.{text_of}
+use Rattle.cr_macros.specs.Expansion.{Table, Use, Keep, Predefined, Object, use_of}
+use Rattle.cr_macros.specs.Laws.{FollowsTheRules}
+use Rattle.cr_macros.specs.MacroTables.{Macros, macro_text, table_of}
+use Rattle.cr_expand.specs.HideSets.{Sets, Grows}
+use Rattle.cr_expand.specs.Held.{held, all_held, hidden, noted, watch_of, IsKnown, AreKnown}
+use Rattle.cr_expand.specs.Frames.{Call}
+use Rattle.cr_expand.specs.Running.{Waiting, Piece, Stands, Ends, current, before, goes_on, leads, put_for}
+use Rattle.cr_expand.specs.Slots.{piece, pieces, tokens, IsSlotKnown, AreSlotsKnown}
+use Rattle.cr_expand.specs.Machines.{waiting_of, waiting, still, IsCallHeld, IsCallKnown, IsMachine, AreMacros, IsGiven, IsSameElsewhere, IsUse, IsStep, IsPredefinedUse, IsPut}
+use Rattle.cr_expand.proofs.Noted.{noted_append}
+use Rattle.cr_expand.proofs.Sets.{grows_same}
+use Rattle.cr_expand.proofs.Going.{with_out, predefined_events, outer_keeps, inner_keeps, outer_predefined, inner_predefined, goes_object, leads_none, then_same}
+use Rattle.cr_expand.proofs.KeptMachine.{table_kept, all_waiting_kept, waiting_of_kept, pieces_kept}
+
+pub all_front : {A : Type 0} (P : A → Type 0) (xs : List A) (x : A) → All P (xs ++ x ∷ []) → All P xs
+all_front P [] x h = All-nil P
+all_front P (y ∷ xs) x h = All-cons P y xs (All-head P y (xs ++ x ∷ []) h) (all_front P xs x (All-tail P y (xs ++ x ∷ []) h))
+
+pub all_last : {A : Type 0} (P : A → Type 0) (xs : List A) (x : A) → All P (xs ++ x ∷ []) → P x
+all_last P [] x h = All-head P x [] h
+all_last P (y ∷ xs) x h = all_last P xs x (All-tail P y (xs ++ x ∷ []) h)
+
+-- the innermost call comes first
+pub waiting_more : (names : List Text) (macros : Macros) (sets : Sets) (cs : List Call) (c : Call) → waiting names macros sets (cs ++ c ∷ []) ≡ waiting_of names macros sets c ∷ waiting names macros sets cs
+waiting_more names macros sets cs c =
+    ap reverse (map-append (waiting_of names macros sets) cs (c ∷ [])) ∙ reverse-append (map {A = Call} (waiting_of names macros sets) cs) (waiting_of names macros sets c ∷ [])
+
+-- the call with one more token in its argument's expansion
+pub waiting_out : (names : List Text) (macros : Macros) (sets : Sets) (c : Call) (h : Held) → waiting_of names macros sets (record c { out = c.out ++ h ∷ [] }) ≡ with_out (waiting_of names macros sets c) (held names sets h)
+waiting_out names macros sets c h =
+    ap {B = Waiting} (λ o. record (waiting_of names macros sets c) { out = o }) (map-append (λ x. held names sets x) c.out (h ∷ []))
+
+-- what the slots and more tokens are
+abbrev pub front : List Text → Sets → List Slot → List Token → List Piece
+front names sets slots more = pieces names sets slots ++ before more []
+
+pub front_tokens : (names : List Text) (sets : Sets) (hs : List Held) (rest : List Slot) (more : List Token) → front names sets (tokens hs ++ rest) more ≡ before (all_held names sets hs) (front names sets rest more)
+front_tokens names sets [] rest more = refl
+front_tokens names sets (h ∷ hs) rest more = ap (λ ps. Stands (held names sets h) ∷ ps) (front_tokens names sets hs rest more)
+
+goes_same : (table table2 : Table) (ws ws2 : List Waiting) (ps ps2 : List Piece) (left left2 : ℕ) → table ≡ table2 → ws ≡ ws2 → ps ≡ ps2 → left ≡ left2 → goes_on table ws ps left ≡ goes_on table2 ws2 ps2 left2
+goes_same table table2 ws ws2 ps ps2 left left2 a b c d = rw (a, b, c, d) refl
+
+pub same_sets : (old new : Sets) → new ≡ old → Grows old new
+same_sets old new e = subst (λ s. Grows old s) (sym e) (grows_same old)
+
+with_rule : (names : List Text) (m : Machine) (s0 s1 : List Seen) (events : List Event) → s1 ≡ s0 ++ noted (watch_of names m.notes) events → s1 ≡ s0 ++ noted (watch_of names m.notes) (events ++ Rule ∷ [])
+with_rule names m s0 s1 events e = e ∙ ap (λ l. s0 ++ l) (sym (noted_append (watch_of names m.notes) events (Rule ∷ []) ∙ append-nil (noted (watch_of names m.notes) events)))
+
+module _ (names new : List Text) (macros : Macros) (old now : Machine) (more : List Token) (mach : IsMachine names macros old) (known : AreMacros names macros) (g : Grows names new) (k : Grows old.sets now.sets) (file : now.file ≡ old.file) where
+  abbrev pub table_of_old : Table
+  table_of_old = table_of names macros (text_of names old.file)
+
+  pub calls_held : All (IsCallHeld names macros old.sets) old.frames.items
+  calls_held = All-weaker (IsCallKnown names macros old.sets) (IsCallHeld names macros old.sets) (λ c h. h.holds) old.frames.items mach.calls
+
+  table_now : table_of new macros (text_of new now.file) ≡ table_of_old
+  table_now = ap (λ f. table_of new macros (text_of new f)) file ∙ table_kept names new g macros old.file known mach.file
+
+  pub still_old : (ws : List Waiting) (ps : List Piece) → waiting names macros old.sets old.frames.items ≡ ws → front names old.sets old.slots.items more ≡ ps
+      → still names macros old more ≡ goes_on table_of_old ws ps (LIMIT - old.used)
+  still_old ws ps a b = goes_same _ _ _ _ _ _ _ _ refl a b refl
+
+  pub still_now : (ws : List Waiting) (ps : List Piece) (left : ℕ) → waiting new macros now.sets now.frames.items ≡ ws → front new now.sets now.slots.items more ≡ ps → LIMIT - now.used ≡ left
+      → still new macros now more ≡ goes_on table_of_old ws ps left
+  still_now ws ps left a b c = goes_same _ _ _ _ _ _ _ _ table_now a b c
+
+  pub waiting_kept : (cs : List Call) → All (IsCallHeld names macros old.sets) cs → waiting new macros now.sets cs ≡ waiting names macros old.sets cs
+  waiting_kept cs h = ap reverse (all_waiting_kept names new g macros old.sets now.sets k mach.tables.named known cs h)
+
+  pub front_kept : (slots : List Slot) → AreSlotsKnown names old.sets slots → front new now.sets slots more ≡ front names old.sets slots more
+  front_kept slots h = ap (λ ps. ps ++ before more []) (pieces_kept names new g macros old.sets now.sets k mach.tables.named known slots h)
+
+  -- the head at the front
+  pub front_old : (s : Slot) (rest : List Slot) → old.slots.items ≡ s ∷ rest → front names old.sets old.slots.items more ≡ piece names old.sets s ∷ front names old.sets rest more
+  front_old s rest e = ap (λ l. front names old.sets l more) e
+
+  pub rest_known : (s : Slot) (rest : List Slot) → old.slots.items ≡ s ∷ rest → AreSlotsKnown names old.sets rest
+  rest_known s rest e = All-tail (IsSlotKnown names old.sets) s rest (subst (AreSlotsKnown names old.sets) e mach.slots)
+
+  front_now : (s : Slot) (rest : List Slot) → old.slots.items ≡ s ∷ rest → now.slots.items ≡ drop 1 old.slots.items → front new now.sets now.slots.items more ≡ front names old.sets rest more
+  front_now s rest e d = ap (λ l. front new now.sets l more) (d ∙ ap (drop 1) e) ∙ front_kept rest (rest_known s rest e)
+
+  -- a call with one more token, where the calls were these
+  out_now : (cs : List Call) (c : Call) (h : Held) (t : Token) → old.frames.items ≡ cs ++ c ∷ [] → now.frames.items ≡ cs ++ (record c { out = c.out ++ h ∷ [] }) ∷ [] → held new now.sets h ≡ t
+      → waiting new macros now.sets now.frames.items ≡ with_out (waiting_of names macros old.sets c) t ∷ waiting names macros old.sets cs
+  out_now cs c h t e f a =
+      let all : All (IsCallHeld names macros old.sets) (cs ++ c ∷ []) = subst (All (IsCallHeld names macros old.sets)) e calls_held in
+      ap (waiting new macros now.sets) f ∙ waiting_more new macros now.sets cs (record c { out = c.out ++ h ∷ [] })
+      ∙ ap (λ w. w ∷ waiting new macros now.sets cs) (waiting_out new macros now.sets c h
+        ∙ ap (with_out (waiting_of new macros now.sets c)) a
+        ∙ ap (λ w. with_out w t) (waiting_of_kept names new g macros old.sets now.sets k mach.tables.named known c (all_last (IsCallHeld names macros old.sets) cs c all)))
+      ∙ ap (λ ws. with_out (waiting_of names macros old.sets c) t ∷ ws) (waiting_kept cs (all_front (IsCallHeld names macros old.sets) cs c all))
+
+  pub calls_old : (cs : List Call) (c : Call) → old.frames.items ≡ cs ++ c ∷ [] → waiting names macros old.sets old.frames.items ≡ waiting_of names macros old.sets c ∷ waiting names macros old.sets cs
+  calls_old cs c e = ap (waiting names macros old.sets) e ∙ waiting_more names macros old.sets cs c
+
+  -- a token that stays is given
+  pub keeps : (law : FollowsTheRules) (h : Held) (rest : List Slot) (s : ExpStep) (t : Token) → old.slots.items ≡ slot.Token h ∷ rest → use_of table_of_old (held names old.sets h) (current (front names old.sets rest more)) ≡ Keep
+      → now.slots.items ≡ drop 1 old.slots.items → LIMIT - now.used ≡ LIMIT - old.used → now.notes.seen.items ≡ old.notes.seen.items → held new now.sets h ≡ held names old.sets h
+      → IsGiven old.frames.items h now.frames.items s → IsStep names new macros old now more s
+  keeps law h rest (step.Out t) x e u d l n a i = (hidden new now.sets h.hide.0, record {
+    events = Rule ∷ [];
+    goes = still_old [] (Stands (held names old.sets h) ∷ front names old.sets rest more) (ap (waiting names macros old.sets) i.0) (front_old (slot.Token h) rest e)
+      ∙ outer_keeps table_of_old law (held names old.sets h) (front names old.sets rest more) (LIMIT - old.used) u
+      ∙ ap (λ y. leads (y ∷ []) (Rule ∷ []) (goes_on table_of_old [] (front names old.sets rest more) (LIMIT - old.used))) (sym a ∙ ap (token_of new (hidden new now.sets h.hide.0)) (sym i.2))
+      ∙ ap (leads (token_of new (hidden new now.sets h.hide.0) t ∷ []) (Rule ∷ [])) (sym (still_now [] (front names old.sets rest more) (LIMIT - old.used) (ap (waiting new macros now.sets) i.1) (front_now (slot.Token h) rest e d) l));
+    seen = with_rule names old old.notes.seen.items now.notes.seen.items [] (n ∙ sym (append-nil old.notes.seen.items));
+  })
+  keeps law h rest step.More x e u d l n a (cs, c, f, f2) = record {
+    events = Rule ∷ [];
+    goes = still_old (waiting_of names macros old.sets c ∷ waiting names macros old.sets cs) (Stands (held names old.sets h) ∷ front names old.sets rest more) (calls_old cs c f) (front_old (slot.Token h) rest e)
+      ∙ inner_keeps table_of_old law (waiting names macros old.sets cs) (waiting_of names macros old.sets c) (held names old.sets h) (front names old.sets rest more) (LIMIT - old.used) u
+      ∙ ap (leads [] (Rule ∷ [])) (sym (still_now (with_out (waiting_of names macros old.sets c) (held names old.sets h) ∷ waiting names macros old.sets cs) (front names old.sets rest more) (LIMIT - old.used)
+        (out_now cs c h (held names old.sets h) f f2 a) (front_now (slot.Token h) rest e d) l));
+    seen = with_rule names old old.notes.seen.items now.notes.seen.items [] (n ∙ sym (append-nil old.notes.seen.items));
+  }
+  keeps law h rest step.Hungry x e u d l n a i = absurd i
+  keeps law h rest step.End x e u d l n a i = absurd i
+
+  -- a predefined macro's token is given
+  pub predefines : (law : FollowsTheRules) (h : Held) (kind : PpKind) (text : Text) (rest : List Slot) (s : ExpStep) → old.slots.items ≡ slot.Token h ∷ rest
+      → use_of table_of_old (held names old.sets h) (current (front names old.sets rest more)) ≡ Predefined kind text
+      → now.slots.items ≡ drop 1 old.slots.items → now.sets ≡ old.sets → IsPredefinedUse names new old now h (kind, text) s → IsStep names new macros old now more s
+  predefines law h kind text rest (step.Out t) e u d b p = (hidden new now.sets p.one.hide.0, record {
+    events = predefined_events (held names old.sets h);
+    goes = still_old [] (Stands (held names old.sets h) ∷ front names old.sets rest more) (ap (waiting names macros old.sets) p.gives.0) (front_old (slot.Token h) rest e)
+      ∙ outer_predefined table_of_old law (held names old.sets h) kind text (front names old.sets rest more) (LIMIT - old.used) u (omega (arith, p.used, p.limit))
+      ∙ ap (λ y. leads (y ∷ []) (predefined_events (held names old.sets h)) (goes_on table_of_old [] (front names old.sets rest more) (LIMIT - old.used - 2)))
+        (sym (ap (λ z. held new z p.one) b ∙ p.made) ∙ ap (token_of new (hidden new now.sets p.one.hide.0)) (sym p.gives.2))
+      ∙ ap (leads (token_of new (hidden new now.sets p.one.hide.0) t ∷ []) (predefined_events (held names old.sets h)))
+        (sym (still_now [] (front names old.sets rest more) (LIMIT - old.used - 2) (ap (waiting new macros now.sets) p.gives.1) (front_now (slot.Token h) rest e d) (omega (arith, p.used))));
+    seen = with_rule names old old.notes.seen.items now.notes.seen.items (takes MacroName (held names old.sets h)) p.seen;
+  })
+  predefines law h kind text rest step.More e u d b p = by p.gives where
+    by : IsGiven old.frames.items p.one now.frames.items step.More → IsStep names new macros old now more step.More
+    by (cs, c, f, f2) = record {
+      events = predefined_events (held names old.sets h);
+      goes = still_old (waiting_of names macros old.sets c ∷ waiting names macros old.sets cs) (Stands (held names old.sets h) ∷ front names old.sets rest more) (calls_old cs c f) (front_old (slot.Token h) rest e)
+        ∙ inner_predefined table_of_old law (waiting names macros old.sets cs) (waiting_of names macros old.sets c) (held names old.sets h) kind text (front names old.sets rest more) (LIMIT - old.used) u (omega (arith, p.used, p.limit))
+        ∙ ap (leads [] (predefined_events (held names old.sets h)))
+          (sym (still_now (with_out (waiting_of names macros old.sets c) (made (held names old.sets h) kind text h.token.space []) ∷ waiting names macros old.sets cs) (front names old.sets rest more) (LIMIT - old.used - 2)
+            (out_now cs c p.one (made (held names old.sets h) kind text h.token.space []) f f2 (ap (λ z. held new z p.one) b ∙ p.made)) (front_now (slot.Token h) rest e d) (omega (arith, p.used))));
+      seen = with_rule names old old.notes.seen.items now.notes.seen.items (takes MacroName (held names old.sets h)) p.seen;
+    }
+  predefines law h kind text rest step.Hungry e u d b p = absurd p.gives
+  predefines law h kind text rest step.End e u d b p = absurd p.gives

@@ -1,0 +1,17 @@
+use Rattle.std.proofs.Common.{refl}
+use Rattle.cr_expand.specs.declared.machine.Machine.{Machine}
+use Rattle.cr_expand.proofs.Fresh.{fed_gives, fed_machine, fed_runs}
+use Rattle.cr_expand.proofs.expander.Expander.feed.Goals as goal
+
+pub returns-in-Ok-clause-fed : goal.returns-in-Ok-clause-fed
+returns-in-Ok-clause-fed c =
+    let old : Machine = c.args.self.now.machine in
+    let now : Machine = record old { slots = c.put_back.new.slots } in
+    record {
+      gives = λ names macros more. fed_gives names macros old now c.args.tokens.now more c.in-Ok.ensures refl refl refl refl;
+      running = λ names macros r t. fed_runs names macros old now c.args.self.now.fault (fed_machine names macros old now c.args.tokens.now c.in-Ok.ensures refl refl refl refl refl t) r;
+      seen = refl;
+      used = refl;
+      same = (refl, refl, refl, refl);
+      fault = refl;
+    }

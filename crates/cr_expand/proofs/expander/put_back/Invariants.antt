@@ -1,0 +1,7 @@
+use Rattle.std.proofs.Common.{◌≡◌, ◌++◌, take}
+use Rattle.cr_expand.specs.Slots.{tokens}
+use Rattle.cr_expand.specs.Feeding.{all_with}
+use Rattle.cr_expand.proofs.expander.put_back.Given as goal
+
+abbrev pub invariant-loop-i : goal.invariant-loop-i
+invariant-loop-i l = l.slots.items ≡ l.initial.slots.items ++ tokens (all_with l.hide (take l.i l.tokens))

@@ -1,0 +1,9 @@
+use Rattle.std.proofs.Common.{length}
+use Rattle.cr_expand.proofs.Silent.{IsSilent}
+use Rattle.cr_expand.proofs.machine.Machine.next.Given as goal
+
+abbrev pub invariant-loop-step : goal.invariant-loop-step
+invariant-loop-step l = IsSilent l.initial.names l.names l.macros l.initial.self l.self
+
+abbrev pub decreases-loop-step : goal.decreases-loop-step
+decreases-loop-step l = length l.self.slots.items

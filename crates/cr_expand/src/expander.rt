@@ -1,0 +1,150 @@
+//! The machine of macro expansion, which is fed and stepped.
+ghost use Rattle.std.specs.Prelude.{◌≡◌, ◌<◌, ◌≤◌, ◌^◌, ◌++◌, [], List, OnOk, OnErr, IfOk, IfErr, Some, None, Err, length, map, true, false};
+ghost use Rattle.cr_macros.specs.declared.fault.ExpandFault.{ExpandFault as TheFault};
+ghost use Rattle.cr_macros.specs.Tokens.{Token};
+ghost use Rattle.cr_expand.specs.Held.{Faults};
+ghost use Rattle.cr_expand.specs.Feeding.{IsPutBack};
+ghost use Rattle.cr_expand.specs.Machines.{AreMacros, IsStep, IsWantedAt, IsSameRun};
+ghost use Rattle.cr_expand.specs.Expanders.{left_over, IsRunning, IsFresh, IsFed, Steps, GivesTheExpansion};
+use crate::held::Held;
+use crate::hide_sets::HideSets;
+use crate::machine::{ExpStep, LIMIT, Machine};
+use crate::notes::Notes;
+use crate::slot::Slot;
+use cr_base::{Name, NameTable, OutOfMemory, PpTok};
+use cr_macros::{ExpandFault, MacroTable, Seen};
+use std::alloc::Global;
+use std::collections::VecDeque;
+
+/// A machine that expands one list of preprocessing tokens, which is fed in pieces (C11 6.10.3,
+/// with hide sets).
+#[derive(Drop)]
+pub struct Expander {
+    machine: Machine,
+    fault: Option<ExpandFault>,
+}
+
+// Puts tokens behind the slots.
+fn put_back(
+    slots: &mut VecDeque<Slot>,
+    hides: &HideSets,
+    tokens: &[PpTok],
+) -> Result<(), OutOfMemory>
+    ensures { OnOk result (IsPutBack hides.now slots.old.items slots.new.items tokens.now) }
+{
+    let hide = hides.empty();
+    for i in 0..tokens.len() {
+        let token = tokens[i];
+        slots.push_back(Slot::Token(Held { token, hide }))?;
+    }
+    Ok(())
+}
+
+impl Expander {
+    /// A machine that was fed nothing. It notes the roles of the places of identifiers spelled
+    /// `old` or `new`; `file` is the text of the token that `__FILE__` gives, and `work`, at most
+    /// 4,194,304, the macro work that was used before.
+    pub fn new(alloc: Global, old: Name, new: Name, file: Name, work: u32) -> Expander
+        requires { work ≤ LIMIT }
+        ensures { IsFresh old new file work result }
+    {
+        Expander {
+            machine: Machine {
+                alloc,
+                file,
+                slots: VecDeque::new(alloc),
+                frames: Vec::new(alloc),
+                sets: HideSets::new(alloc),
+                notes: Notes {
+                    from: old,
+                    to: new,
+                    seen: Vec::new(alloc),
+                },
+                used: work,
+                finished: false,
+            },
+            fault: None,
+        }
+    }
+
+    /// Feeds more tokens of the list.
+    ///
+    /// After want of memory it is what each step answers.
+    pub fn feed(&mut self, tokens: &[PpTok]) -> Result<(), OutOfMemory>
+        requires { self.old.machine.finished ≡ false }
+        ensures fed { OnOk result (IsFed self.old self.new tokens.now) }
+        ensures memory { OnErr result (self.new.fault ≡ Some ExpandFault.OutOfMemory) }
+    {
+        match put_back(&mut self.machine.slots, &self.machine.sets, tokens) {
+            Ok(()) => Ok(()),
+            Err(e) => {
+                self.fault = Some(ExpandFault::OutOfMemory);
+                Err(e)
+            }
+        }
+    }
+
+    /// The next use of a rule of expansion, from left to right, those inside a call's arguments
+    /// before the call's own.
+    ///
+    /// It answers `Out` exactly where that gives a token of the result, and `More` where it gives
+    /// none; `Hungry` where it needs a token that wasn't fed, and `finish` wasn't called; `End` where
+    /// all is given after `finish`. The macros are those of the steps before. `ArgCount`,
+    /// `OpenCall`, `BadPaste` and `LimitMacros` come where expansion meets them; after a fault it
+    /// answers that fault again.
+    pub fn step(
+        &mut self,
+        macros: &MacroTable,
+        names: &mut NameTable,
+    ) -> Result<ExpStep, ExpandFault>
+        requires room { length names.old < 2 ^ 31 }
+        requires macros { AreMacros names.old macros.now }
+        requires running { IsRunning names.old macros.now self.old }
+        ensures step { self.old.fault ≡ None → IfOk result (λ s. Steps names.old names.new macros.now self.old self.new s) }
+        ensures wanted { self.old.fault ≡ None → IfOk result (λ s. IsWantedAt names.old macros.now self.old.machine s) }
+        ensures faults { self.old.fault ≡ None → (more : List Token) → (self.old.machine.finished ≡ true → more ≡ []) → IfErr result (λ e. Faults (left_over names.old macros.now self.old more) e) }
+        ensures kept { IfErr result (λ e. self.new.fault ≡ Some e) }
+        ensures stuck { (fault : TheFault) → self.old.fault ≡ Some fault → (result ≡ Err fault) × (self.new ≡ self.old) × (names.new ≡ names.old) }
+        ensures running { IsRunning names.new macros.now self.new }
+        ensures fault { OnOk result (self.new.fault ≡ None) }
+    {
+        if let Some(fault) = self.fault {
+            return Err(fault);
+        }
+        match self.machine.next(names, macros) {
+            Ok(step) => Ok(step),
+            Err(fault) => {
+                self.fault = Some(fault);
+                Err(fault)
+            }
+        }
+    }
+
+    /// Says that no more is fed.
+    pub fn finish(&mut self)
+        ensures { self.new ≡ record self.old { machine = record self.old.machine { finished = true } } }
+    {
+        self.machine.finished = true;
+    }
+
+    /// The roles of the places so far.
+    pub fn seen(&self) -> &[Seen]
+        ensures { result.now ≡ self.now.machine.notes.seen.items }
+    {
+        &self.machine.notes.seen
+    }
+
+    /// The macro work used so far, with that before.
+    pub fn work(&self) -> u32
+        ensures { result ≡ self.now.machine.used }
+    {
+        self.machine.used
+    }
+}
+
+/// The law that a machine gives the expansion of a list however that was cut into pieces and fed
+/// (C11 6.10.3): run to its end, it has given out the tokens of the definition, noted their roles
+/// and used their macro work. It does no work.
+pub fn expansion_is_however_it_is_fed()
+    ensures { GivesTheExpansion }
+{}

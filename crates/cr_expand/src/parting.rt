@@ -1,0 +1,119 @@
+//! A call's arguments, parted by its commas.
+ghost use Rattle.std.specs.Prelude.{◌≡◌, ◌≤◌, ◌<◌, ◌+◌, ◌^◌, ◌++◌, ◌∷◌, [], length, List, map, IfOk, MatchOption, slice_get, slice_set, if◌then◌else◌};
+ghost use Rattle.cr_expand.specs.HideSets.{Sets};
+ghost use Rattle.cr_expand.specs.Held.{held};
+ghost use Rattle.cr_expand.specs.Slots.{tokens};
+ghost use Rattle.cr_expand.specs.Calls.{part_at, IsTokenAt, IsCallAt, ArePartedAt};
+ghost use Rattle.cr_expand.specs.Partings.{IsTaken};
+ghost use Rattle.cr_expand.specs.declared.held.Held.{Held as TheHeld};
+ghost use Rattle.cr_expand.specs.declared.slot.Slot.{Slot as TheSlot};
+
+use crate::held::Held;
+use crate::slot::Slot;
+use cr_base::{NameTable, OutOfMemory};
+use cr_macros::is_mark;
+use std::alloc::Global;
+use std::collections::VecDeque;
+
+/// The lists so far, the one that goes on, how many `(` are open in it, and how many commas still
+/// part lists.
+#[derive(Drop)]
+pub struct Parting {
+    pub lists: Vec<Vec<Held>>,
+    pub list: Vec<Held>,
+    pub depth: usize,
+    pub commas: usize,
+}
+
+// How many `(` are open behind a token; none where it is a comma that parts lists.
+fn depth_behind(names: &NameTable, commas: usize, depth: usize, h: Held) -> Option<usize>
+    requires { depth ≤ 2 ^ 63 }
+    ensures depth { (sets : Sets) → result ≡ part_at commas depth (held names.now sets h) }
+    ensures small { MatchOption result (1 ≤ commas) (λ d. d ≤ depth + 1) }
+{
+    if is_mark(names, b"(", h.token) {
+        return Some(depth + 1);
+    }
+    if is_mark(names, b")", h.token) {
+        return Some(depth.saturating_sub(1));
+    }
+    if is_mark(names, b",", h.token) && depth == 0 && 1 <= commas {
+        return None;
+    }
+    Some(depth)
+}
+
+impl Parting {
+    // One more token; tells whether it is a comma that parts lists.
+    fn take(&mut self, alloc: Global, names: &NameTable, h: Held) -> Result<bool, OutOfMemory>
+        requires { self.old.depth ≤ 2 ^ 63 }
+        ensures small { self.new.depth ≤ self.old.depth + 1 }
+        ensures taken { IfOk result (λ parts. IsTaken names.now h self.old self.new parts) }
+    {
+        match depth_behind(names, self.commas, self.depth, h) {
+            None => {
+                let list = std::mem::replace(&mut self.list, Vec::new(alloc));
+                self.lists.push(list)?;
+                self.commas -= 1;
+                Ok(true)
+            }
+            Some(depth) => {
+                self.list.push(h)?;
+                self.depth = depth;
+                Ok(false)
+            }
+        }
+    }
+}
+
+/// The token in a slot.
+pub fn token_at(slots: &VecDeque<Slot>, i: usize) -> Held
+    requires { IsTokenAt slots.now.items i }
+    ensures { slice_get slots.now.items i ≡ Some (Slot.Token result) }
+{
+    match slots[i] {
+        Slot::Token(h) => h,
+        Slot::End => unreachable!(),
+    }
+}
+
+// An end in place of what is in a slot, where it is wanted.
+fn end_if(slots: &mut VecDeque<Slot>, i: usize, wanted: bool)
+    requires { i < length slots.old.items }
+    ensures { slots.new.items ≡ (if wanted then slice_set slots.old.items i Slot.End else slots.old.items) }
+{
+    if wanted {
+        slots[i] = Slot::End;
+    }
+}
+
+/// Parts the tokens of a call, from the third slot to the `)`, by this many commas at most, and
+/// puts ends in the place of the commas and the `)`. Tells the lists.
+pub fn part(
+    alloc: Global,
+    names: &NameTable,
+    slots: &mut VecDeque<Slot>,
+    close: usize,
+    commas: usize,
+) -> Result<Vec<Vec<Held>>, OutOfMemory>
+    requires { IsCallAt slots.old.items close }
+    ensures { (a b end : TheSlot) (inside : List TheHeld) (rest : List TheSlot) → slots.old.items ≡ a ∷ b ∷ (tokens inside ++ end ∷ rest) → close ≡ 2 + length inside → IfOk result (λ lists. ArePartedAt names.now commas a b inside rest (map (λ v. v.items) lists.items) slots.new.items) }
+{
+    let mut parting = Parting {
+        lists: Vec::new(alloc),
+        list: Vec::new(alloc),
+        depth: 0,
+        commas,
+    };
+    for i in 2..close {
+        let h = token_at(slots, i);
+        let parts = parting.take(alloc, names, h)?;
+        end_if(slots, i, parts);
+    }
+    end_if(slots, close, true);
+    let Parting {
+        mut lists, list, ..
+    } = parting;
+    lists.push(list)?;
+    Ok(lists)
+}
