@@ -14,8 +14,10 @@ mod include;
 mod line;
 mod open_ifs;
 mod reader;
+mod roles;
 mod search;
 mod trace;
+mod words;
 
 use cr_snapshot::known_files_stay_known;
 
