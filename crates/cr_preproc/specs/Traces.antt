@@ -61,6 +61,9 @@ abbrev pub old_at : Text → Token → Origin → List Place
 old_at old t Made = []
 old_at old t (At place) = if is_ident t.kind && bytes_eq t.text old then place ∷ [] else []
 
+abbrev pub all_old_at : Text → List Token → List Place
+all_old_at old = flat_map (λ t. old_at old t t.origin)
+
 -- one of the macro's parameters is spelled new
 abbrev pub captures : Text → MacroText → Bool
 captures new m = is_some (index_of (params_of m) new)
@@ -69,7 +72,7 @@ abbrev pub body_params_of : Text → Text → Event → List Place
 body_params_of old new Took = []
 body_params_of old new (Opened path) = []
 body_params_of old new (Looked paths) = []
-body_params_of old new (Defined t m) = if captures new m then flat_map (λ u. old_at old u u.origin) m.body else []
+body_params_of old new (Defined t m) = if captures new m then all_old_at old m.body else []
 body_params_of old new (Told e) = []
 body_params_of old new (Final t) = []
 

@@ -4,14 +4,15 @@ ghost use Rattle.std.specs.List.{list_any};
 ghost use Rattle.cr_macros.specs.Definition.{text_of};
 ghost use Rattle.cr_macros.specs.MacroTables.{macro_text};
 ghost use Rattle.cr_macros.specs.Substitution as subst;
-ghost use Rattle.cr_macros.specs.Tokens.{token_of, tokens_of};
+ghost use Rattle.cr_macros.specs.Tokens.{Token, token_of, tokens_of};
 ghost use Rattle.cr_preproc.specs.Definition.{parameters_of};
 ghost use Rattle.cr_preproc.specs.Directives.{definition_marks};
-ghost use Rattle.cr_preproc.specs.Traces.{params_seen, all_events_seen};
+ghost use Rattle.cr_preproc.specs.Tasks.{Defined};
+ghost use Rattle.cr_preproc.specs.Traces.{params_seen, all_events_seen, all_old_at, body_params_of};
 
 use crate::definitions::parameters;
 use crate::trace::{Renaming, note, note_all};
-use cr_base::{Name, NameTable, OutOfMemory, PpTok, Role};
+use cr_base::{Name, NameTable, Origin, OutOfMemory, Place, PpTok, Role};
 use cr_macros::{Macro, Seen, is_ident, text};
 
 // Whether a text is that of one of the names.
@@ -81,5 +82,40 @@ pub fn note_definition(
         parameters(names, behind),
     )?;
     note_params(seen, names, renaming, m, m.body.items())?;
+    Ok(())
+}
+
+// Notes the places of the identifiers that are spelled `old`.
+fn note_places(
+    places: &mut Vec<Place>,
+    names: &NameTable,
+    old: Name,
+    tokens: &[PpTok],
+) -> Result<(), OutOfMemory>
+    ensures { OnOk result (places.new.items ≡ places.old.items ++ all_old_at (text_of names.now old) (tokens_of names.now tokens.now)) }
+{
+    for i in 0..tokens.len() {
+        let t = tokens[i];
+        if let Origin::At(place) = t.origin {
+            if is_ident(t.kind) && text(names, t.text) == text(names, old) {
+                places.push(place)?;
+            }
+        }
+    }
+    Ok(())
+}
+
+// Notes where the old name stands in a body that has a parameter spelled as the new one.
+pub fn note_captured(
+    places: &mut Vec<Place>,
+    names: &NameTable,
+    renaming: Renaming,
+    m: &Macro,
+) -> Result<(), OutOfMemory>
+    ensures { (name : Token) → OnOk result (places.new.items ≡ places.old.items ++ body_params_of (text_of names.now renaming.old) (text_of names.now renaming.new) (Defined name (macro_text names.now m.now))) }
+{
+    if has_param(names, m, text(names, renaming.new)) {
+        note_places(places, names, renaming.old, m.body.items())?;
+    }
     Ok(())
 }
