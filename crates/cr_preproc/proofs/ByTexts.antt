@@ -64,6 +64,15 @@ drop_named names zero ts h = h
 drop_named names (suc n) [] h = tt
 drop_named names (suc n) (t ∷ ts) h = drop_named names n ts h.1
 
+prefix_same : (names : List Text) (ts : List PpTok) → prefix_len (λ t. not (is_mark (codes ")") t)) (tokens_of names ts) ≡ prefix_len (λ t. not (number.is_mark names (codes ")") t)) ts
+prefix_same names [] = refl
+prefix_same names (t ∷ ts) = ap (λ n. cond (not (number.is_mark names (codes ")") t)) (1 + n) 0) (prefix_same names ts)
+
+pub close_same : (names : List Text) (ts : List PpTok) → text.close_of (tokens_of names ts) ≡ position (number.is_mark names (codes ")")) ts
+close_same names ts =
+    ap (λ n. cond (nat_lt n (length (tokens_of names ts))) (Some n) None) (prefix_same names ts)
+    ∙ ap (λ n. cond (nat_lt (position_or_len (number.is_mark names (codes ")")) ts) n) (Some (position_or_len (number.is_mark names (codes ")")) ts)) None) (length-map ts (token_of names []))
+
 module _ (names : List Text) (distinct : IsDistinct names) where
   abbrev seen : PpTok → Token
   seen t = token_of names [] t
@@ -173,15 +182,6 @@ module _ (names : List Text) (distinct : IsDistinct names) where
   function_same name body None = refl
   function_same name body (Some (ps, v)) = refl
 
-  prefix_same : (ts : List PpTok) → prefix_len (λ t. not (is_mark (codes ")") t)) (tokens_of names ts) ≡ prefix_len (λ t. not (number.is_mark names (codes ")") t)) ts
-  prefix_same [] = refl
-  prefix_same (t ∷ ts) = ap (λ n. cond (not (number.is_mark names (codes ")") t)) (1 + n) 0) (prefix_same ts)
-
-  close_same : (ts : List PpTok) → text.close_of (tokens_of names ts) ≡ position (number.is_mark names (codes ")")) ts
-  close_same ts =
-      ap (λ n. cond (nat_lt n (length (tokens_of names ts))) (Some n) None) (prefix_same ts)
-      ∙ ap (λ n. cond (nat_lt (position_or_len (number.is_mark names (codes ")")) ts) n) (Some (position_or_len (number.is_mark names (codes ")")) ts)) None) (length-map ts seen)
-
   with_params_same : (name : Name) (rest : List PpTok) (o : Option ℕ) → AreNamed names rest → text.with_params (tokens_of names rest) o ≡ seen_macro (number.with_params names name rest o)
   with_params_same name rest None h = refl
   with_params_same name rest (Some n) h =
@@ -197,7 +197,7 @@ module _ (names : List Text) (distinct : IsDistinct names) where
   macro_same : (name : Name) (rest : List PpTok) → AreNamed names rest → text.macro_of (tokens_of names rest) ≡ seen_macro (number.macro_of names name rest)
   macro_same name [] h = refl
   macro_same name (t ∷ rest) h =
-      ap (λ o. cond begins (text.with_params (tokens_of names rest) o) (Some (text.object_like (tokens_of names (t ∷ rest))))) (close_same rest)
+      ap (λ o. cond begins (text.with_params (tokens_of names rest) o) (Some (text.object_like (tokens_of names (t ∷ rest))))) (close_same names rest)
       ∙ ap (λ x. cond begins x (Some (text.object_like (tokens_of names (t ∷ rest))))) (with_params_same name rest (position (number.is_mark names (codes ")")) rest) h.1)
       ∙ macro_if begins (number.with_params names name rest (position (number.is_mark names (codes ")")) rest)) (Some (number.object_like name (t ∷ rest))) where
         begins : Bool

@@ -4,6 +4,7 @@ pub mod ByTexts
 pub mod MacroNames
 pub mod Answered
 pub mod Lexemes
+pub mod Marked
 pub mod Leaving
 pub mod Deep
 pub mod Frames

@@ -10,11 +10,14 @@ mod definitions;
 mod directive;
 mod evaluate;
 mod header;
+mod include;
 mod line;
 mod open_ifs;
 mod reader;
+mod roles;
 mod search;
 mod trace;
+mod words;
 
 use cr_snapshot::known_files_stay_known;
 
