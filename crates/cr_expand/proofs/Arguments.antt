@@ -1,10 +1,9 @@
 -- Steps of the machine inside a call.
-use Rattle.std.proofs.Common.{◌≡◌, ℕ, zero, suc, ◌+◌, ◌-◌, ◌<◌, ◌≤◌, Bool, true, false, List, [], ◌∷◌, ◌++◌, length, map, drop, refl, sym, ap, subst, ◌∙◌, arith, append-nil, Option, Some, None, ◌⊎◌, inl, inr}
+use Rattle.std.proofs.Common.{◌≡◌, ℕ, suc, ◌+◌, ◌-◌, ◌<◌, Bool, false, List, [], ◌∷◌, ◌++◌, length, refl, sym, ap, subst, ◌∙◌, arith, Some, ◌⊎◌, inl, inr}
 use Rattle.std.specs.Prelude.{slice_index_or}
 use Rattle.std.specs.List.{All}
 use Rattle.std.proofs.lemmas.List.{map-append}
 use Rattle.std.proofs.lemmas.List.Elements.{All-head, All-tail, All-append}
-use Rattle.cr_base.specs.declared.token.Name.{Name}
 use Rattle.cr_base.specs.declared.token.Place.{Place}
 use Rattle.cr_base.specs.declared.token.PpKind.{PpKind}
 use Rattle.cr_macros.specs.declared.macros.Macro.{Macro}
@@ -15,28 +14,28 @@ use Rattle.cr_expand.specs.declared.slot.Slot.{Slot}
 use Rattle.cr_expand.specs.declared.slot.Slot.TheVariants as slot
 use Rattle.cr_expand.specs.declared.machine.Machine.{Machine}
 use Rattle.cr_expand.specs.declared.machine.TheConstants.{LIMIT}
-use Rattle.cr_macros.specs.Tokens.{Text, Token, MacroText, Answer, Gave, Stopped, Work, ◌>>=◌, with_name, both, Cause, Over, ArgCount, OpenCall}
+use Rattle.cr_macros.specs.Tokens.{Text, Token, MacroText, Stopped, ◌>>=◌, with_name, both, Cause, ArgCount, OpenCall}
 use Rattle.cr_macros.specs.Definition.{text_of}
-use Rattle.cr_macros.specs.Substitution.{Args, body_items}
-use Rattle.cr_macros.specs.Expansion.{Table, Use, Predefined, Call, Wrong, use_of, counted_call, arguments, expand, expanded}
+use Rattle.cr_macros.specs.Substitution.{body_items}
+use Rattle.cr_macros.specs.Expansion.{Table, Predefined, Wrong, use_of, counted_call, expand, expanded}
 use Rattle.cr_macros.specs.Laws.{FollowsTheRules}
 use Rattle.cr_macros.specs.MacroTables.{Macros, macro_named, macro_text, table_of}
-use Rattle.cr_expand.specs.HideSets.{Sets, Grows}
+use Rattle.cr_expand.specs.HideSets.{Grows}
 use Rattle.cr_expand.specs.Held.{held, all_held, all_args, hidden, IsKnown, AreKnown, Faults}
 use Rattle.cr_expand.specs.Frames as frames
 use Rattle.cr_expand.specs.Running.{Waiting, Piece, Stands, Ends, current, behind, before, first_lists, behind_lists, goes_on, put_for}
-use Rattle.cr_expand.specs.Slots.{pieces, tokens, ended, ends, begun, IsSlotKnown, AreSlotsKnown}
+use Rattle.cr_expand.specs.Slots.{tokens, ended, ends, begun, IsSlotKnown, AreSlotsKnown}
 use Rattle.cr_expand.specs.Turns.{list_of, IsCallUse}
 use Rattle.cr_expand.specs.Wanted.{is_wanted}
-use Rattle.cr_expand.specs.Machines.{means_of, waiting_of, waiting, total, still, IsCallHeld, IsCallKnown, IsMachine, AreMacros, IsEntered, IsMiscounted, next_call}
+use Rattle.cr_expand.specs.Machines.{means_of, waiting_of, waiting, total, still, IsCallKnown, IsMachine, AreMacros, IsEntered, IsMiscounted, next_call}
 use Rattle.cr_expand.proofs.Telling.{no_memory}
 use Rattle.cr_expand.proofs.Kept.{held_kept, all_args_kept}
 use Rattle.cr_expand.proofs.Sets.{grows_same}
 use Rattle.cr_expand.proofs.Counting.{length_map}
 use Rattle.cr_expand.proofs.Going.{behind_before, with_done, IsDropped, goes_call, goes_wrong, predefined_over}
 use Rattle.cr_expand.proofs.Entering.{arguments_same, entered, goes_first, goes_next}
-use Rattle.cr_expand.proofs.Steps.{all_last, waiting_more, front, front_tokens, still_old, still_now, waiting_kept, front_kept, front_old, rest_known, calls_old, calls_held}
-use Rattle.cr_expand.proofs.Calling.{lists_front, front_begun, texts_arguments, front_calls, all_kept, total_last, raw_known, lists_known, ended_known, begun_known, inside_known, ends_lists}
+use Rattle.cr_expand.proofs.Steps.{all_last, waiting_more, front, front_tokens, still_old, still_now, front_old, calls_old}
+use Rattle.cr_expand.proofs.Calling.{lists_front, front_begun, texts_arguments, all_kept, total_last, raw_known, lists_known, ended_known, begun_known, inside_known, ends_lists}
 use Rattle.cr_expand.proofs.KeptMachine.{pieces_kept}
 
 is_dropped_as : (a b : Bool) (ps qs : List Piece) → a ≡ b → IsDropped a ps qs → IsDropped b ps qs
@@ -60,10 +59,13 @@ module _ (names new : List Text) (macros : Macros) (old now : Machine) (more : L
       → use_of T (held names old.sets h) (current (front names old.sets rest more)) ≡ Predefined kind text
       → (x ≡ fault.OutOfMemory) ⊎ ((x ≡ fault.LimitMacros) × (LIMIT < old.used + 2)) → Faults (still names macros old more) x
   predefined_fault law h kind text rest x e u f = elim f [
-      inl m ↦ rw m (no_memory (still names macros old more))
-    | inr p ↦ rw (p.0, still_old names new macros old now more mach known g k file _ (Stands (held names old.sets h) ∷ front names old.sets rest more) refl (front_old names new macros old now more mach known g k file (slot.Token h) rest e),
-        predefined_over T law (waiting names macros old.sets old.frames.items) (held names old.sets h) kind text (front names old.sets rest more) (LIMIT - old.used) u (omega (arith, p.1))) (inl refl)
-    ]
+    | inl m ↦ rw m (no_memory (still names macros old more))
+    | inr p ↦ rw (
+      p.0,
+      still_old names new macros old now more mach known g k file _ (Stands (held names old.sets h) ∷ front names old.sets rest more) refl (front_old names new macros old now more mach known g k file (slot.Token h) rest e),
+      predefined_over T law (waiting names macros old.sets old.frames.items) (held names old.sets h) kind text (front names old.sets rest more) (LIMIT - old.used) u (omega (arith, p.1)),
+    ) (inl refl)
+  ]
 
   -- the next argument is begun
   pub next_argument : (law : FollowsTheRules) (cs : List frames.Call) (c : frames.Call) (rest : List Slot) → old.slots.items ≡ slot.End ∷ rest → old.frames.items ≡ cs ++ c ∷ [] → 0 < c.more
@@ -76,14 +78,14 @@ module _ (names new : List Text) (macros : Macros) (old now : Machine) (more : L
       let le : length c.done + 1 ≡ suc (length (all_args names old.sets c.done)) = omega (arith, ld) in
       let some : 0 < ends rest = (let t1 = mach.ends in let t2 = ap ends e in let t3 = ap total f in let t4 = total_last cs c in omega (arith, t1, t2, t3, t4, m)) in
       still_old names new macros old now more mach known g k file (waiting_of names macros old.sets c ∷ waiting names macros old.sets cs) (Ends ∷ front names old.sets rest more) (calls_old names new macros old now more mach known g k file cs c f)
-        (front_old names new macros old now more mach known g k file slot.End rest e)
+      (front_old names new macros old now more mach known g k file slot.End rest e)
       ∙ goes_next T law (waiting names macros old.sets cs) (waiting_of names macros old.sets c) (front names old.sets rest more) (front names old.sets now.slots.items more) (c.more - 1) (LIMIT - old.used) (omega arith)
-        (is_dropped_as _ _ (front names old.sets rest more) (front names old.sets now.slots.items more) (wd ∙ ap (is_wanted (means_of names (macro_named c.name.token.text macros))) le)
-          (subst (λ l. IsDropped (slice_index_or c.wanted (length c.done + 1) false) (front names old.sets rest more) (front names old.sets l more)) (sym s) (front_begun names old.sets more (slice_index_or c.wanted (length c.done + 1) false) rest some)))
+      (is_dropped_as _ _ (front names old.sets rest more) (front names old.sets now.slots.items more) (wd ∙ ap (is_wanted (means_of names (macro_named c.name.token.text macros))) le)
+      (subst (λ l. IsDropped (slice_index_or c.wanted (length c.done + 1) false) (front names old.sets rest more) (front names old.sets l more)) (sym s) (front_begun names old.sets more (slice_index_or c.wanted (length c.done + 1) false) rest some)))
       ∙ sym (still_now names new macros old now more mach known g k file (with_done (waiting_of names macros old.sets c) (c.more - 1) ∷ waiting names macros old.sets cs) (front names old.sets now.slots.items more) (LIMIT - old.used)
-        (ap (λ l. waiting l macros now.sets now.frames.items) x ∙ ap (λ z. waiting names macros z now.frames.items) a ∙ ap (waiting names macros old.sets) n ∙ waiting_more names macros old.sets cs (next_call c)
-          ∙ ap (λ d. record (waiting_of names macros old.sets c) { done = d; out = []; more = c.more - 1 } ∷ waiting names macros old.sets cs) (map-append (all_held names old.sets) c.done (c.out ∷ [])))
-        (ap (λ l. front l now.sets now.slots.items more) x ∙ ap (λ z. front names z now.slots.items more) a) (ap (λ u. LIMIT - u) b))
+      (ap (λ l. waiting l macros now.sets now.frames.items) x ∙ ap (λ z. waiting names macros z now.frames.items) a ∙ ap (waiting names macros old.sets) n ∙ waiting_more names macros old.sets cs (next_call c)
+      ∙ ap (λ d. record (waiting_of names macros old.sets c) { done = d; out = []; more = c.more - 1 } ∷ waiting names macros old.sets cs) (map-append (all_held names old.sets) c.done (c.out ∷ [])))
+      (ap (λ l. front l now.sets now.slots.items more) x ∙ ap (λ z. front names z now.slots.items more) a) (ap (λ u. LIMIT - u) b))
 
   -- a call is entered
   module _ (law : FollowsTheRules) (h : Held) (m : Macro) (count n : ℕ) (u : IsCallUse names old.sets old.slots.items more (use_of T (held names old.sets h)) h m count n) (looked : macro_named h.token.text macros ≡ Some m) where
@@ -98,10 +100,13 @@ module _ (names new : List Text) (macros : Macros) (old now : Machine) (more : L
 
     pub miscounts : (x : ExpandFault) → IsMiscounted names m u.params u.inside h x → Faults (still names macros old more) x
     miscounts x f = elim f [
-        inl p ↦ rw p (no_memory (still names macros old more))
-      | inr p ↦ rw (p.0, wrong_use law h behind_name (ArgCount h.token.site) u.slots_are
-          (u.used ∙ ap (counted_call (held names old.sets h) (macro_text names m) (held names old.sets u.closes) (list_of names old.sets u.rest more)) (p.1 old.sets))) (inl refl)
-      ]
+      | inl p ↦ rw p (no_memory (still names macros old more))
+      | inr p ↦ rw (
+        p.0,
+        wrong_use law h behind_name (ArgCount h.token.site) u.slots_are
+            (u.used ∙ ap (counted_call (held names old.sets h) (macro_text names m) (held names old.sets u.closes) (list_of names old.sets u.rest more)) (p.1 old.sets)),
+      ) (inl refl)
+    ]
 
     slots_here : AreSlotsKnown names old.sets (slot.Token h ∷ behind_name)
     slots_here = subst (AreSlotsKnown names old.sets) u.slots_are mach.slots
@@ -137,30 +142,32 @@ module _ (names new : List Text) (macros : Macros) (old now : Machine) (more : L
         let ws = waiting names macros old.sets old.frames.items in
         still_old names new macros old now more mach known g k file ws (Stands t ∷ front names old.sets behind_name more) refl (front_old names new macros old now more mach known g k file (slot.Token h) behind_name u.slots_are)
         ∙ goes_call T law ws t M args (held names old.sets u.closes) (front names old.sets behind_name more) (front names old.sets u.rest more) (LIMIT - old.used)
-          (u.used ∙ ap (counted_call t M (held names old.sets u.closes) (list_of names old.sets u.rest more)) i.args) behind_same
+        (u.used ∙ ap (counted_call t M (held names old.sets u.closes) (list_of names old.sets u.rest more)) i.args) behind_same
         ∙ arguments_same T law t M args args (all_args names old.sets i.lists) H (λ ts. goes_on T ws (before ts (front names old.sets u.rest more))) (LIMIT - old.used) (texts_arguments names old.sets i.call.raw i.lists i.raw)
         ∙ ap (λ a. (expanded (expand T) (body_items M) 0 a >>= λ fulls. put_for t M args fulls H >>= λ ts. goes_on T ws (before ts (front names old.sets u.rest more))) (LIMIT - old.used)) (sym lf.0 ∙ ap (λ z. first_lists z ps) i.count)
         ∙ ap (λ q. (expanded (expand T) (body_items M) 0 (first_lists (suc i.call.more) ps) >>= λ fulls. put_for t M args fulls H >>= λ ts. goes_on T ws (before ts q)) (LIMIT - old.used)) (sym lf.1 ∙ ap (λ z. behind_lists z ps) i.count)
         ∙ goes_first T law ws t M args H i.call.more ps qs (LIMIT - old.used)
-          (subst (λ s. IsDropped (is_wanted M 0) ps (front names old.sets s more)) (sym i.slots) (front_begun names old.sets more (is_wanted M 0) (ended i.lists ++ u.rest) some))
+        (subst (λ s. IsDropped (is_wanted M 0) ps (front names old.sets s more)) (sym i.slots) (front_begun names old.sets more (is_wanted M 0) (ended i.lists ++ u.rest) some))
         ∙ sym (still_now names new macros old now more mach known g k file (entered t M args H i.call.more ∷ ws) qs (LIMIT - old.used)
-          (ap (λ y. waiting y macros now.sets now.frames.items) x ∙ ap (waiting names macros now.sets) i.frames ∙ waiting_more names macros now.sets old.frames.items i.call
-            ∙ ap (λ w. w ∷ waiting names macros now.sets old.frames.items) call_is
-            ∙ ap (λ w. entered t M args H i.call.more ∷ w) (sym (ap (λ y. waiting y macros now.sets old.frames.items) x) ∙ all_kept names new macros old now more mach known g k file))
-          (ap (λ y. front y now.sets now.slots.items more) x ∙ slots_same) l) where
-      some_ends : (lists : List (List Held)) (rest : List Slot) (mo : ℕ) → length lists ≡ suc mo → 0 < ends (ended lists ++ rest)
-      some_ends lists rest mo e = let a = ends_lists lists rest in omega (arith, a, e)
-      call_is : waiting_of names macros now.sets i.call ≡ entered (held names old.sets h) (macro_text names m) (all_args names old.sets i.call.raw) H i.call.more
-      call_is =
-          same _ _ _ _ _ _ _ _ _ _ _ _
-          (ap (held names now.sets) i.name ∙ held_kept names names old.sets now.sets h (grows_same names) k mach.tables.named head_is_known)
-          (ap (λ z. means_of names (macro_named z.token.text macros)) i.name ∙ ap (means_of names) looked)
-          i.hide
-          (all_args_kept names names old.sets now.sets i.call.raw (grows_same names) k mach.tables.named (raw_is_known i))
-          (ap (all_args names now.sets) i.done)
-          (ap (all_held names now.sets) i.out) where
-        same : (n1 n2 : Token) (m1 m2 : MacroText) (h1 h2 : List Text) (r1 r2 d1 d2 : List (List Token)) (o1 o2 : List Token) → n1 ≡ n2 → m1 ≡ m2 → h1 ≡ h2 → r1 ≡ r2 → d1 ≡ d2 → o1 ≡ o2
-            → ◌≡◌ {A = Waiting} (record { name = n1; means = m1; hide = h1; raw = r1; done = d1; out = o1; more = i.call.more }) (record { name = n2; means = m2; hide = h2; raw = r2; done = d2; out = o2; more = i.call.more })
-        same n1 n2 m1 m2 h1 h2 r1 r2 d1 d2 o1 o2 a b c d e f = cc
-      slots_same : front names now.sets now.slots.items more ≡ front names old.sets now.slots.items more
-      slots_same = ap (λ ps. ps ++ before more []) (pieces_kept names names (grows_same names) macros old.sets now.sets k mach.tables.named known now.slots.items (slots_are_known i))
+        (ap (λ y. waiting y macros now.sets now.frames.items) x ∙ ap (waiting names macros now.sets) i.frames ∙ waiting_more names macros now.sets old.frames.items i.call
+        ∙ ap (λ w. w ∷ waiting names macros now.sets old.frames.items) call_is
+        ∙ ap (λ w. entered t M args H i.call.more ∷ w) (sym (ap (λ y. waiting y macros now.sets old.frames.items) x) ∙ all_kept names new macros old now more mach known g k file))
+        (ap (λ y. front y now.sets now.slots.items more) x ∙ slots_same) l) where
+          some_ends : (lists : List (List Held)) (rest : List Slot) (mo : ℕ) → length lists ≡ suc mo → 0 < ends (ended lists ++ rest)
+          some_ends lists rest mo e = let a = ends_lists lists rest in omega (arith, a, e)
+
+          call_is : waiting_of names macros now.sets i.call ≡ entered (held names old.sets h) (macro_text names m) (all_args names old.sets i.call.raw) H i.call.more
+          call_is =
+              same _ _ _ _ _ _ _ _ _ _ _ _
+              (ap (held names now.sets) i.name ∙ held_kept names names old.sets now.sets h (grows_same names) k mach.tables.named head_is_known)
+              (ap (λ z. means_of names (macro_named z.token.text macros)) i.name ∙ ap (means_of names) looked)
+              i.hide
+              (all_args_kept names names old.sets now.sets i.call.raw (grows_same names) k mach.tables.named (raw_is_known i))
+              (ap (all_args names now.sets) i.done)
+              (ap (all_held names now.sets) i.out) where
+                same : (n1 n2 : Token) (m1 m2 : MacroText) (h1 h2 : List Text) (r1 r2 d1 d2 : List (List Token)) (o1 o2 : List Token) → n1 ≡ n2 → m1 ≡ m2 → h1 ≡ h2 → r1 ≡ r2 → d1 ≡ d2 → o1 ≡ o2
+                    → ◌≡◌ {A = Waiting} (record { name = n1; means = m1; hide = h1; raw = r1; done = d1; out = o1; more = i.call.more }) (record { name = n2; means = m2; hide = h2; raw = r2; done = d2; out = o2; more = i.call.more })
+                same n1 n2 m1 m2 h1 h2 r1 r2 d1 d2 o1 o2 a b c d e f = cc
+
+          slots_same : front names now.sets now.slots.items more ≡ front names old.sets now.slots.items more
+          slots_same = ap (λ ps. ps ++ before more []) (pieces_kept names names (grows_same names) macros old.sets now.sets k mach.tables.named known now.slots.items (slots_are_known i))

@@ -1,40 +1,32 @@
 -- Steps of the machine that put in, enter a call or end an argument.
-use Rattle.std.proofs.Common.{◌≡◌, ℕ, zero, suc, ◌+◌, ◌-◌, ◌<◌, ◌≤◌, Bool, true, false, List, [], ◌∷◌, ◌++◌, length, map, drop, reverse, refl, sym, ap, subst, ◌∙◌, arith, append_assoc, append-nil, length-append, Option, Some, None, ◌⊎◌, inl, inr}
-use Rattle.std.specs.Prelude.{slice_index_or, slice_get}
+use Rattle.std.proofs.Common.{◌≡◌, ◌+◌, ◌-◌, ◌<◌, Bool, true, false, List, [], ◌∷◌, ◌++◌, length, refl, sym, ap, subst, ◌∙◌, arith, append_assoc, append-nil, inl, inr}
 use Rattle.std.specs.List.{All}
 use Rattle.std.proofs.lemmas.List.{map-append}
 use Rattle.std.proofs.lemmas.List.Elements.{All-head, All-tail, All-weaker, All-nil, All-cons, All-append, All-get_or}
 use Rattle.std.proofs.lemmas.Option.{get_or_from_slice_get, slice_get_within}
-use Rattle.cr_base.specs.declared.token.Name.{Name}
 use Rattle.cr_macros.specs.declared.macros.Macro.{Macro}
 use Rattle.cr_macros.specs.declared.fault.ExpandFault.{ExpandFault}
 use Rattle.cr_expand.specs.declared.held.Held.{Held}
 use Rattle.cr_expand.specs.declared.slot.Slot.{Slot}
 use Rattle.cr_expand.specs.declared.slot.Slot.TheVariants as slot
 use Rattle.cr_expand.specs.declared.machine.Machine.{Machine}
-use Rattle.cr_expand.specs.declared.machine.ExpStep.TheVariants as step
 use Rattle.cr_expand.specs.declared.machine.TheConstants.{LIMIT}
-use Rattle.cr_macros.specs.Tokens.{Text, Token, MacroText, Answer, Gave, Stopped, Work, after, then_do, ◌>>=◌, with_name, both, Cause}
+use Rattle.cr_macros.specs.Tokens.{Text, Token, Work, then_do, ◌>>=◌, with_name}
 use Rattle.cr_macros.specs.Definition.{text_of}
-use Rattle.cr_macros.specs.Substitution.{Args, body_items}
-use Rattle.cr_macros.specs.Expansion.{Table, Use, Object, Call, Wrong, use_of, counted_call, arguments, expand, expanded}
+use Rattle.cr_macros.specs.Expansion.{Table, Object, use_of}
 use Rattle.cr_macros.specs.Laws.{FollowsTheRules}
 use Rattle.cr_macros.specs.MacroTables.{Macros, macro_named, macro_text, table_of}
 use Rattle.cr_expand.specs.HideSets.{Sets, Grows}
-use Rattle.cr_expand.specs.Held.{held, all_held, all_args, hidden, noted, watch_of, IsKnown, AreKnown, Faults, IsCause}
+use Rattle.cr_expand.specs.Held.{held, all_held, all_args, hidden, IsKnown, AreKnown, Faults}
 use Rattle.cr_expand.specs.Frames as frames
-use Rattle.cr_expand.specs.Running.{Waiting, Piece, Stands, Ends, current, behind, before, first_lists, behind_lists, goes_on, leads, put_for}
-use Rattle.cr_expand.specs.Slots.{piece, pieces, tokens, ended, ends, begun, from_end, IsSlotKnown, AreSlotsKnown}
+use Rattle.cr_expand.specs.Running.{Waiting, Stands, Ends, current, behind, before, first_lists, behind_lists, goes_on, leads, put_for}
+use Rattle.cr_expand.specs.Slots.{tokens, ended, ends, begun, IsSlotKnown, AreSlotsKnown}
 use Rattle.cr_expand.specs.Calls.{IsAmong}
-use Rattle.cr_expand.specs.Wanted.{is_wanted}
-use Rattle.cr_expand.specs.Machines.{means_of, waiting_of, waiting, total, still, IsCallHeld, IsCallKnown, IsMachine, AreMacros, IsUse, IsPut, IsEntered, AreArguments, done_call, next_call, put_for_call}
-use Rattle.cr_expand.proofs.Telling.{faults_first, no_memory}
-use Rattle.cr_expand.proofs.Kept.{held_kept, all_args_kept}
-use Rattle.cr_expand.proofs.Sets.{grows_same}
-use Rattle.cr_expand.proofs.Counting.{length_map}
-use Rattle.cr_expand.proofs.Going.{current_before, behind_before, with_done, IsDropped, leads_none, goes_object, goes_call, goes_last, goes_wrong}
-use Rattle.cr_expand.proofs.Entering.{AreArguments as AreTextArguments, arguments_same, entered, goes_first, goes_next}
-use Rattle.cr_expand.proofs.Steps.{all_front, all_last, waiting_more, front, front_tokens, table_of_old, still_old, still_now, waiting_kept, front_kept, front_old, rest_known, calls_old, calls_held}
+use Rattle.cr_expand.specs.Machines.{means_of, waiting_of, waiting, total, still, IsCallHeld, IsMachine, AreMacros, IsUse, IsPut, AreArguments, done_call, put_for_call}
+use Rattle.cr_expand.proofs.Telling.{faults_first}
+use Rattle.cr_expand.proofs.Going.{current_before, behind_before, IsDropped, leads_none, goes_object, goes_last}
+use Rattle.cr_expand.proofs.Entering.{AreArguments as AreTextArguments}
+use Rattle.cr_expand.proofs.Steps.{all_front, front, front_tokens, still_old, still_now, waiting_kept, front_kept, front_old, rest_known, calls_old, calls_held}
 
 -- the lists that stand with their ends
 pub lists_front : (names : List Text) (sets : Sets) (lists : List (List Held)) (rest : List Slot) (more : List Token)
@@ -43,11 +35,12 @@ lists_front names sets [] rest more = (refl, refl)
 lists_front names sets (l ∷ lists) rest more =
     let r = lists_front names sets lists rest more in
     let e : front names sets (ended (l ∷ lists) ++ rest) more ≡ before (all_held names sets l) (Ends ∷ front names sets (ended lists ++ rest) more) =
-      ap (λ s. front names sets s more) (append_assoc (tokens l) (slot.End ∷ ended lists) rest) ∙ front_tokens names sets l (slot.End ∷ (ended lists ++ rest)) more in
-    let b : behind (front names sets (ended (l ∷ lists) ++ rest) more) ≡ front names sets (ended lists ++ rest) more = ap behind e ∙ behind_before (all_held names sets l) (Ends ∷ front names sets (ended lists ++ rest) more) in
-    (ap (λ c. c ∷ first_lists (length lists) (behind (front names sets (ended (l ∷ lists) ++ rest) more))) (ap current e ∙ current_before (all_held names sets l) (Ends ∷ front names sets (ended lists ++ rest) more) ∙ append-nil (all_held names sets l))
-      ∙ ap (λ p. all_held names sets l ∷ first_lists (length lists) p) b ∙ ap (λ a. all_held names sets l ∷ a) r.0,
-     ap (behind_lists (length lists)) b ∙ r.1)
+    ap (λ s. front names sets s more) (append_assoc (tokens l) (slot.End ∷ ended lists) rest) ∙ front_tokens names sets l (slot.End ∷ (ended lists ++ rest)) more in
+    let b : behind (front names sets (ended (l ∷ lists) ++ rest) more) ≡ front names sets (ended lists ++ rest) more = ap behind e ∙ behind_before (all_held names sets l) (Ends ∷ front names sets (ended lists ++ rest) more) in (
+      ap (λ c. c ∷ first_lists (length lists) (behind (front names sets (ended (l ∷ lists) ++ rest) more))) (ap current e ∙ current_before (all_held names sets l) (Ends ∷ front names sets (ended lists ++ rest) more) ∙ append-nil (all_held names sets l))
+          ∙ ap (λ p. all_held names sets l ∷ first_lists (length lists) p) b ∙ ap (λ a. all_held names sets l ∷ a) r.0,
+      ap (behind_lists (length lists)) b ∙ r.1,
+    )
 
 -- a list that isn't wanted is dropped
 pub front_begun : (names : List Text) (sets : Sets) (more : List Token) (b : Bool) (slots : List Slot) → 0 < ends slots → IsDropped b (front names sets slots more) (front names sets (begun b slots) more)
@@ -107,9 +100,9 @@ pub raw_known : (names : List Text) (sets : Sets) (inside : List Held) (lists ra
 raw_known names sets inside lists raw a h r =
     let l = lists_known names sets inside lists a h in
     elim r [
-      inl e ↦ subst (All (AreKnown names sets)) (sym e) l
-    | inr (inl e) ↦ subst (All (AreKnown names sets)) (sym e) (All-append (AreKnown names sets) lists ([] ∷ []) l (All-cons (AreKnown names sets) [] [] (All-nil (IsKnown names sets)) (All-nil (AreKnown names sets))))
-    | inr (inr p) ↦ subst (All (AreKnown names sets)) (sym p.0) (All-nil (AreKnown names sets))
+      | inl e ↦ subst (All (AreKnown names sets)) (sym e) l
+      | inr (inl e) ↦ subst (All (AreKnown names sets)) (sym e) (All-append (AreKnown names sets) lists ([] ∷ []) l (All-cons (AreKnown names sets) [] [] (All-nil (IsKnown names sets)) (All-nil (AreKnown names sets))))
+      | inr (inr p) ↦ subst (All (AreKnown names sets)) (sym p.0) (All-nil (AreKnown names sets))
     ]
 
 pub ended_known : (names : List Text) (sets : Sets) (lists : List (List Held)) → All (AreKnown names sets) lists → AreSlotsKnown names sets (ended lists)
@@ -117,9 +110,9 @@ ended_known names sets [] h = All-nil (IsSlotKnown names sets)
 ended_known names sets (l ∷ lists) h =
     All-append (IsSlotKnown names sets) (tokens l) (slot.End ∷ ended lists) (tokens_known l (All-head (AreKnown names sets) l lists h))
     (All-cons (IsSlotKnown names sets) slot.End (ended lists) tt (ended_known names sets lists (All-tail (AreKnown names sets) l lists h))) where
-  tokens_known : (hs : List Held) → AreKnown names sets hs → AreSlotsKnown names sets (tokens hs)
-  tokens_known [] k = All-nil (IsSlotKnown names sets)
-  tokens_known (x ∷ hs) k = All-cons (IsSlotKnown names sets) (slot.Token x) (tokens hs) (All-head (IsKnown names sets) x hs k) (tokens_known hs (All-tail (IsKnown names sets) x hs k))
+      tokens_known : (hs : List Held) → AreKnown names sets hs → AreSlotsKnown names sets (tokens hs)
+      tokens_known [] k = All-nil (IsSlotKnown names sets)
+      tokens_known (x ∷ hs) k = All-cons (IsSlotKnown names sets) (slot.Token x) (tokens hs) (All-head (IsKnown names sets) x hs k) (tokens_known hs (All-tail (IsKnown names sets) x hs k))
 
 pub tokens_known : (names : List Text) (sets : Sets) (hs : List Held) → AreKnown names sets hs → AreSlotsKnown names sets (tokens hs)
 tokens_known names sets [] k = All-nil (IsSlotKnown names sets)
@@ -133,10 +126,10 @@ inside_known names sets (x ∷ inside) rest h =
 
 pub texts_arguments : (names : List Text) (sets : Sets) (raw lists : List (List Held)) → AreArguments raw lists → AreTextArguments (all_args names sets raw) (all_args names sets lists)
 texts_arguments names sets raw lists r = elim r [
-      inl e ↦ inl (ap (all_args names sets) e)
-    | inr (inl e) ↦ inr (inl (ap (all_args names sets) e ∙ map-append (all_held names sets) lists ([] ∷ [])))
-    | inr (inr p) ↦ inr (inr (ap (all_args names sets) p.0, ap (all_args names sets) p.1))
-    ]
+  | inl e ↦ inl (ap (all_args names sets) e)
+  | inr (inl e) ↦ inr (inl (ap (all_args names sets) e ∙ map-append (all_held names sets) lists ([] ∷ [])))
+  | inr (inr p) ↦ inr (inr (ap (all_args names sets) p.0, ap (all_args names sets) p.1))
+]
 
 module _ (names new : List Text) (macros : Macros) (old now : Machine) (more : List Token) (mach : IsMachine names macros old) (known : AreMacros names macros) (g : Grows names new) (k : Grows old.sets now.sets) (file : now.file ≡ old.file) where
   abbrev T : Table
@@ -149,8 +142,8 @@ module _ (names new : List Text) (macros : Macros) (old now : Machine) (more : L
   puts ws work rest e p w a = record {
     events = p.events;
     goes = e ∙ ap (λ r. then_do r (λ ts. goes_on T ws (before ts (front names old.sets rest more)))) p.gives
-      ∙ leads_none p.events (goes_on T ws (before (all_held new now.sets p.list) (front names old.sets rest more)) (LIMIT - now.used))
-      ∙ ap (leads [] p.events) (sym (still_now names new macros old now more mach known g k file ws (before (all_held new now.sets p.list) (front names old.sets rest more)) (LIMIT - now.used) w
+        ∙ leads_none p.events (goes_on T ws (before (all_held new now.sets p.list) (front names old.sets rest more)) (LIMIT - now.used))
+        ∙ ap (leads [] p.events) (sym (still_now names new macros old now more mach known g k file ws (before (all_held new now.sets p.list) (front names old.sets rest more)) (LIMIT - now.used) w
         (ap (λ s. front new now.sets s more) p.slots ∙ front_tokens new now.sets p.list rest more ∙ ap (before (all_held new now.sets p.list)) (front_kept names new macros old now more mach known g k file rest a)) refl));
     seen = p.seen;
   }
@@ -160,7 +153,7 @@ module _ (names new : List Text) (macros : Macros) (old now : Machine) (more : L
 
   object_goes : (law : FollowsTheRules) (h : Held) (m : Macro) (rest : List Slot) → old.slots.items ≡ slot.Token h ∷ rest → use_of T (held names old.sets h) (current (front names old.sets rest more)) ≡ Object (macro_text names m)
       → still names macros old more ≡ (put_for (held names old.sets h) (macro_text names m) [] [] (with_name (text_of names h.token.text) (hidden names old.sets h.hide.0))
-        >>= λ ts. goes_on T (waiting names macros old.sets old.frames.items) (before ts (front names old.sets rest more))) (LIMIT - old.used)
+      >>= λ ts. goes_on T (waiting names macros old.sets old.frames.items) (before ts (front names old.sets rest more))) (LIMIT - old.used)
   object_goes law h m rest e u =
       still_old names new macros old now more mach known g k file _ (Stands (held names old.sets h) ∷ front names old.sets rest more) refl (front_old names new macros old now more mach known g k file (slot.Token h) rest e)
       ∙ goes_object T law (waiting names macros old.sets old.frames.items) (held names old.sets h) (macro_text names m) (front names old.sets rest more) (LIMIT - old.used) u
@@ -180,11 +173,11 @@ module _ (names new : List Text) (macros : Macros) (old now : Machine) (more : L
       → still names macros old more ≡ (put_for_call names macros old.sets (done_call c) >>= λ ts. goes_on T (waiting names macros old.sets cs) (before ts (front names old.sets rest more))) (LIMIT - old.used)
   last_goes law cs c rest e f m =
       still_old names new macros old now more mach known g k file (waiting_of names macros old.sets c ∷ waiting names macros old.sets cs) (Ends ∷ front names old.sets rest more) (calls_old names new macros old now more mach known g k file cs c f)
-        (front_old names new macros old now more mach known g k file slot.End rest e)
+      (front_old names new macros old now more mach known g k file slot.End rest e)
       ∙ goes_last T law (waiting names macros old.sets cs) (waiting_of names macros old.sets c) (front names old.sets rest more) (LIMIT - old.used) m
       ∙ ap (λ d. (put_for (held names old.sets c.name) (means_of names (macro_named c.name.token.text macros)) (all_args names old.sets c.raw) d (hidden names old.sets c.hide)
-          >>= λ ts. goes_on T (waiting names macros old.sets cs) (before ts (front names old.sets rest more))) (LIMIT - old.used))
-        (sym (map-append (all_held names old.sets) c.done (c.out ∷ [])))
+      >>= λ ts. goes_on T (waiting names macros old.sets cs) (before ts (front names old.sets rest more))) (LIMIT - old.used))
+      (sym (map-append (all_held names old.sets) c.done (c.out ∷ [])))
 
   pub front_calls : (cs : List frames.Call) (c : frames.Call) → old.frames.items ≡ cs ++ c ∷ [] → All (IsCallHeld names macros old.sets) cs
   front_calls cs c f = all_front (IsCallHeld names macros old.sets) cs c (subst (All (IsCallHeld names macros old.sets)) f (calls_held names new macros old now more mach known g k file))

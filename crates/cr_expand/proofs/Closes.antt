@@ -1,6 +1,6 @@
 -- Where a call's arguments end, token by token.
-use Rattle.std.proofs.Common.{◌≡◌, ℕ, zero, suc, ◌+◌, ◌<◌, ◌≤◌, Bool, true, false, cond, List, [], ◌∷◌, ◌++◌, length, map, get_or, refl, sym, ap, ◌∙◌, arith, append_assoc, append-nil, length-append, Option, Some, None}
-use Rattle.std.specs.Prelude.{codes, if◌then◌else◌}
+use Rattle.std.proofs.Common.{◌≡◌, ℕ, zero, suc, ◌+◌, ◌<◌, ◌≤◌, Bool, true, false, cond, List, [], ◌∷◌, ◌++◌, length, get_or, refl, sym, ap, ◌∙◌, arith, append_assoc, append-nil, length-append, Option, Some, None}
+use Rattle.std.specs.Prelude.{codes}
 use Rattle.std.proofs.lemmas.List.{map-append, get_or_default}
 use Rattle.cr_expand.specs.declared.held.Held.{Held}
 use Rattle.cr_expand.specs.declared.slot.Slot.{Slot}
@@ -102,11 +102,15 @@ place_of a b inside i e = let l = length-map inside in omega (arith, l) where
 pub found_more : (names : List Text) (slots : List Slot) (i depth d : ℕ) (h : Held) → IsFound names slots i depth → i < length slots → get_or slots i slot.End ≡ slot.Token h
     → ((sets : Sets) → Some d ≡ nested (held names sets h) depth) → IsFound names slots (i + 1) d
 found_more names slots i depth d h (a, b, inside, rest, e, l, k) lt g n =
-    let t = at_place slots (a ∷ b ∷ tokens inside) rest i slot.End e (place_of a b inside i l) lt in
-    (a, b, inside ++ h ∷ [], t.0,
+    let t = at_place slots (a ∷ b ∷ tokens inside) rest i slot.End e (place_of a b inside i l) lt in (
+      a,
+      b,
+      inside ++ h ∷ [],
+      t.0,
       e ∙ ap (λ r. a ∷ b ∷ (tokens inside ++ r)) (t.1 ∙ ap (λ x. x ∷ t.0) g) ∙ ap (λ r. a ∷ b ∷ r) (sym (tokens_more inside h t.0)),
       (let m = length-append inside (h ∷ []) in omega (arith, m, l)),
-      at_more names inside h depth d n k)
+      at_more names inside h depth d n k,
+    )
 
 pub found_close : (names : List Text) (sets : Sets) (slots : List Slot) (i depth : ℕ) (h : Held) → IsFound names slots i depth → i < length slots → get_or slots i slot.End ≡ slot.Token h
     → None ≡ nested (held names sets h) depth → IsClosed names sets slots (close.At i)

@@ -1,5 +1,5 @@
 -- The number of a call's arguments.
-use Rattle.std.proofs.Common.{◌≡◌, ℕ, zero, suc, ◌+◌, ◌-◌, ◌<◌, ◌≤◌, Bool, true, false, cond, List, [], ◌∷◌, ◌++◌, length, map, refl, sym, ap, ◌∙◌, arith, Option, Some, None, inl, inr, ◌⊎◌}
+use Rattle.std.proofs.Common.{◌≡◌, ℕ, suc, ◌+◌, ◌-◌, ◌<◌, Bool, true, false, cond, List, [], ◌∷◌, ◌++◌, length, map, refl, sym, ap, ◌∙◌, arith, Option, Some, None, inl, inr}
 use Rattle.std.specs.Prelude.{◌==◌, if◌then◌else◌, option_map}
 use Rattle.std.proofs.lemmas.List.{map-append}
 use Rattle.std.proofs.lemmas.Bool.Decides.{nat_tests}
@@ -106,7 +106,7 @@ some_params names sets p params inside lists e =
     ∙ ap (λ n. if n == length (p ∷ params) then Some texts else None) (length_map (all_held names sets) lists)
     ∙ plain_cases names sets params inside lists (length lists == length (p ∷ params))
     ∙ ap (λ b. option_map (all_args names sets) (if b then (if is_one_empty lists then Some [] else None) else (if length lists == length (p ∷ params) then Some lists else None)))
-      (let q : false ≡ (suc (length params) == 0) = grind (arith, nat_tests) in q)
+    (let q : false ≡ (suc (length params) == 0) = grind (arith, nat_tests) in q)
 
 no_params_empty : (names : List Text) (sets : Sets) (lists : List (List Held)) → all_args names sets lists ≡ [] ∷ [] → Some [] ≡ option_map (all_args names sets) (if is_one_empty lists then Some [] else None)
 no_params_empty names sets [] e = cc
@@ -155,6 +155,7 @@ counted_lists count false lists raw e = by (count == 0) (length lists == count) 
   one ([] ∷ []) e = inr (inr ((let q : raw ≡ [] = cc in q), refl))
   one ([] ∷ b ∷ lists) e = absurd (let q : ⊥ = cc in q)
   one ((h ∷ hs) ∷ lists) e = absurd (let q : ⊥ = cc in q)
+
   by : (b d : Bool) → Some raw ≡ cond b (if is_one_empty lists then Some [] else None) (cond d (Some lists) None) → AreArguments raw lists
   by true d e = one lists e
   by false true e = inl (let q : raw ≡ lists = cc in q)
@@ -166,6 +167,7 @@ module _ (names : List Text) (m : Macro) (params : List Name) (a b : Slot) (insi
     some : (ls : List (List Held)) → Some_of (all_args names [] ls) → 0 < length ls
     some [] h = absurd h
     some (l ∷ ls) h = omega arith
+
     by : (ls : List (List Held)) → all_args names [] ls ≡ parted n 0 (all_held names [] inside) → 0 < length ls
     by ls e = some ls (rw e (parted_some (all_held names [] inside) n 0))
 

@@ -1,5 +1,5 @@
 -- What a line defines is made of the line's tokens.
-use Rattle.std.proofs.Common.{◌≡◌, ℕ, ◌+◌, ◌≤◌, Bool, true, false, cond, List, [], ◌∷◌, ◌++◌, length, take, drop, refl, sym, ap, subst, ◌∙◌, arith, length-drop, Option, Some, None}
+use Rattle.std.proofs.Common.{◌≡◌, ℕ, ◌+◌, ◌≤◌, Bool, true, false, cond, List, [], ◌∷◌, length, take, drop, refl, sym, subst, ◌∙◌, arith, length-drop, Option, Some, None}
 use Rattle.std.specs.Prelude.{◌==◌, ◌&&◌, not, if◌then◌else◌, codes, fold, position}
 use Rattle.std.specs.List.{All, slice_split, onto_first}
 use Rattle.std.proofs.lemmas.Bool.Decides.{nat_tests}
@@ -9,9 +9,9 @@ use Rattle.cr_base.specs.declared.token.PpTok.{PpTok}
 use Rattle.cr_macros.specs.declared.macros.Macro.{Macro}
 use Rattle.cr_macros.specs.Tokens.{Text, is_ident}
 use Rattle.cr_macros.specs.Definition.{Params, is_mark, is_rest, has_name, with_token, with_piece, after_piece, pieces, params_of, object_like, function_like, with_params, macro_of, is_good, if_good, is_macro_name, definition_of, definition}
-use Rattle.cr_macros.specs.MacroTables.{Macros, macro_named, Sets, Defines}
+use Rattle.cr_macros.specs.MacroTables.{Macros, macro_named, Sets}
 use Rattle.cr_expand.specs.Held.{IsNamed}
-use Rattle.cr_expand.specs.Items.{IsTokenNamed, AreNamed, IsMacroKnown}
+use Rattle.cr_expand.specs.Items.{IsTokenNamed, IsMacroKnown}
 use Rattle.cr_expand.specs.Machines.{IsGoodMacro, AreMacros}
 use Rattle.cr_expand.specs.GoodMacros.{KeepsMacros}
 use Rattle.cr_expand.proofs.Keeping.{macros_later}
@@ -114,12 +114,13 @@ pub keeps_macros : KeepsMacros
 keeps_macros = record {
   none = λ names. record { known = λ n m e. absurd (nothing m e) };
   defined = λ names line old new a t l d.
-    let k = definition_made names line d.0 33554432 t l d.1 in
-    set_known names old new d.0.name (Some d.0) a d.2 (λ m e. subst (λ x. IsNamed names d.0.name × IsGoodMacro names x) (same d.0 m e) (k.0.name, k));
+      let k = definition_made names line d.0 33554432 t l d.1 in
+      set_known names old new d.0.name (Some d.0) a d.2 (λ m e. subst (λ x. IsNamed names d.0.name × IsGoodMacro names x) (same d.0 m e) (k.0.name, k));
   undefined = λ names name old new a s. set_known names old new name None a s (λ m e. absurd (nothing m e));
   later = λ names new macros g a. macros_later names new g macros a;
 } where
   nothing : (m : Macro) → None ≡ Some m → ⊥
   nothing m e = cc
+
   same : (a b : Macro) → Some a ≡ Some b → a ≡ b
   same a b e = cc

@@ -1,13 +1,12 @@
 -- Calls are entered, and their arguments expanded one after another.
 use Rattle.std.proofs.Common.{◌≡◌, ℕ, zero, suc, ◌+◌, Bool, true, false, None, List, [], ◌∷◌, ◌++◌, length, refl, sym, ap, ◌∙◌, arith, append_assoc, append-nil, length-append, ◌⊎◌, inl, inr}
 use Rattle.std.specs.List.{list_any}
-use Rattle.std.specs.Prelude.{slice_index_or}
-use Rattle.cr_macros.specs.Tokens.{Text, Token, MacroText, Answer, Gave, Stopped, Work, after, then_do, ◌>>=◌, give, note, takes}
+use Rattle.cr_macros.specs.Tokens.{Text, Token, MacroText, Gave, Work, after, then_do, ◌>>=◌, give, takes}
 use Rattle.cr_macros.specs.Substitution.{Args, Item, Stays, Spelt, Bare, Full, CommaRest, Paste, body_items, is_full, arg_at, with_space, parts_of, or_placemarker, comma_and, filled, all_filled, all_pasted, placed, dropped}
 use Rattle.cr_macros.specs.Expansion.{Table, expand, expanded, expanded_if, put_in}
 use Rattle.cr_macros.specs.Laws.{FollowsTheRules}
 use Rattle.cr_base.specs.declared.cause.Role.TheVariants.{MacroName}
-use Rattle.cr_expand.specs.Running.{Piece, Stands, Ends, current, behind, before, first_lists, behind_lists, Waiting, put_for, resumes, goes_on}
+use Rattle.cr_expand.specs.Running.{Piece, Ends, current, behind, before, first_lists, behind_lists, Waiting, put_for, resumes, goes_on}
 use Rattle.cr_expand.proofs.Going.{then_then, then_same, after_none, with_done, is_wanted, IsDropped, one_argument}
 
 -- Two lists of arguments are the same at each place, where one that is missing is empty.
@@ -33,7 +32,7 @@ all_filled_same name raw full full2 h [] left = refl
 all_filled_same name raw full full2 h (item ∷ its) left =
     ap (λ r. then_do r (λ ps. all_filled name raw full its >>= λ more. give (ps ++ more))) (filled_same name raw full full2 h item left)
     ∙ then_same (filled name raw full2 item left) (λ ps. all_filled name raw full its >>= λ more. give (ps ++ more)) (λ ps. all_filled name raw full2 its >>= λ more. give (ps ++ more))
-      (λ ps left1. ap (λ r. then_do r (λ more. give (ps ++ more))) (all_filled_same name raw full full2 h its left1))
+    (λ ps left1. ap (λ r. then_do r (λ more. give (ps ++ more))) (all_filled_same name raw full full2 h its left1))
 
 pub put_same : (name : Token) (m : MacroText) (raw full full2 : Args) (hide : List Text) → SameAt full full2 → (left : ℕ) → put_for name m raw full hide left ≡ put_for name m raw full2 hide left
 put_same name m raw full full2 hide h left =
@@ -61,23 +60,23 @@ module _ (table : Table) (law : FollowsTheRules) where
   expanded_longer its i (arg ∷ args) left =
       let r = expanded_if (expand table) arg (list_any (is_full i) its) left in
       then_same r (λ full. expanded (expand table) its (i + 1) (args ++ [] ∷ []) >>= λ fulls. give (full ∷ fulls)) (λ full. (expanded (expand table) its (i + 1) args >>= λ fulls. give (full ∷ fulls)) >>= λ fulls. give (fulls ++ [] ∷ []))
-        (λ full left1.
-          ap (λ r. then_do r (λ fulls. give (full ∷ fulls))) (expanded_longer its (i + 1) args left1)
-          ∙ then_then (expanded (expand table) its (i + 1) args left1) (λ fulls. give (fulls ++ [] ∷ [])) (λ fulls. give (full ∷ fulls))
-          ∙ sym (then_then (expanded (expand table) its (i + 1) args left1) (λ fulls. give (full ∷ fulls)) (λ fulls. give (fulls ++ [] ∷ []))))
+      (λ full left1.
+      ap (λ r. then_do r (λ fulls. give (full ∷ fulls))) (expanded_longer its (i + 1) args left1)
+      ∙ then_then (expanded (expand table) its (i + 1) args left1) (λ fulls. give (fulls ++ [] ∷ [])) (λ fulls. give (full ∷ fulls))
+      ∙ sym (then_then (expanded (expand table) its (i + 1) args left1) (λ fulls. give (full ∷ fulls)) (λ fulls. give (fulls ++ [] ∷ []))))
       ∙ sym (then_then r (λ full. expanded (expand table) its (i + 1) args >>= λ fulls. give (full ∷ fulls)) (λ fulls. give (fulls ++ [] ∷ [])))
 
   pub arguments_same : (t : Token) (m : MacroText) (raw args lists : Args) (hide : List Text) (go : List Token → Work (List Token)) (left : ℕ) → AreArguments args lists
       → (expanded (expand table) (body_items m) 0 args >>= λ fulls. put_for t m raw fulls hide >>= go) left
       ≡ (expanded (expand table) (body_items m) 0 lists >>= λ fulls. put_for t m raw fulls hide >>= go) left
   arguments_same t m raw args lists hide go left h = elim h [
-      inl e ↦ ap (λ l. (expanded (expand table) (body_items m) 0 l >>= λ fulls. put_for t m raw fulls hide >>= go) left) e
+    | inl e ↦ ap (λ l. (expanded (expand table) (body_items m) 0 l >>= λ fulls. put_for t m raw fulls hide >>= go) left) e
     | inr (inl e) ↦
         ap (λ l. (expanded (expand table) (body_items m) 0 l >>= λ fulls. put_for t m raw fulls hide >>= go) left) e
         ∙ ap (λ r. then_do r (λ fulls. put_for t m raw fulls hide >>= go)) (expanded_longer (body_items m) 0 lists left)
         ∙ then_then (expanded (expand table) (body_items m) 0 lists left) (λ fulls. give (fulls ++ [] ∷ [])) (λ fulls. put_for t m raw fulls hide >>= go)
         ∙ then_same (expanded (expand table) (body_items m) 0 lists left) (λ fulls. give (fulls ++ [] ∷ []) >>= λ fulls1. put_for t m raw fulls1 hide >>= go) (λ fulls. put_for t m raw fulls hide >>= go)
-          (λ fulls left1. after_none _ ∙ ap (λ r. then_do r go) (put_same t m raw (fulls ++ [] ∷ []) fulls hide (same_longer fulls) left1))
+        (λ fulls left1. after_none _ ∙ ap (λ r. then_do r go) (put_same t m raw (fulls ++ [] ∷ []) fulls hide (same_longer fulls) left1))
     | inr (inr p) ↦
         ap (λ l. (expanded (expand table) (body_items m) 0 l >>= λ fulls. put_for t m raw fulls hide >>= go) left) p.0
         ∙ after_none _
@@ -85,7 +84,7 @@ module _ (table : Table) (law : FollowsTheRules) where
         ∙ sym (after_none _)
         ∙ ap (λ r. then_do r (λ fulls. put_for t m raw fulls hide >>= go)) (sym (one_empty (body_items m) 0 left))
         ∙ ap (λ l. (expanded (expand table) (body_items m) 0 l >>= λ fulls. put_for t m raw fulls hide >>= go) left) (sym p.1)
-    ]
+  ]
 
   behind_dropped : (b : Bool) (ps qs : List Piece) → IsDropped b ps qs → behind qs ≡ behind ps
   behind_dropped true ps qs h = ap behind h
@@ -100,17 +99,17 @@ module _ (table : Table) (law : FollowsTheRules) where
       ap (λ r. then_do r (resumes table (goes_on table ws) w ps)) (law table [] left)
       ∙ after_none (resumes table (goes_on table ws) w ps [] left)
       ∙ ap (λ k. (expanded (expand table) its (suc (length w.done)) (first_lists k ps)
-        >>= λ fulls. put_for w.name w.means w.raw (w.done ++ (w.out ++ []) ∷ fulls) w.hide >>= λ ts. goes_on table ws (before ts (behind_lists k ps))) left) e
+      >>= λ fulls. put_for w.name w.means w.raw (w.done ++ (w.out ++ []) ∷ fulls) w.hide >>= λ ts. goes_on table ws (before ts (behind_lists k ps))) left) e
       ∙ ap (λ o. (expanded (expand table) its (suc (length w.done)) (first_lists (suc n) ps) >>= F (behind ps) o) left) (append-nil w.out)
       ∙ one_argument table law (is_wanted w.means (suc (length w.done))) ps qs its (suc (length w.done) + 1) n (F (behind ps) w.out) left h
       ∙ ap (λ l. then_do (expand table (current qs) left) (λ full. expanded (expand table) its (suc (length w.done) + 1) (first_lists n (behind qs)) >>= λ fulls. F l w.out (full ∷ fulls))) (sym (behind_dropped (is_wanted w.means (suc (length w.done))) ps qs h))
       ∙ ap (λ k. then_do (expand table (current qs) left) (λ full. expanded (expand table) its k (first_lists n (behind qs)) >>= λ fulls. F (behind qs) w.out (full ∷ fulls)))
-        (let l = length-append w.done (w.out ∷ []) in let q : suc (length w.done) + 1 ≡ suc (length (w.done ++ w.out ∷ [])) = omega (arith, l) in q)
+      (let l = length-append w.done (w.out ∷ []) in let q : suc (length w.done) + 1 ≡ suc (length (w.done ++ w.out ∷ [])) = omega (arith, l) in q)
       ∙ then_same (expand table (current qs) left) (λ full. expanded (expand table) its (suc (length (w.done ++ w.out ∷ []))) (first_lists n (behind qs)) >>= λ fulls. F (behind qs) w.out (full ∷ fulls))
-        (resumes table (goes_on table ws) (with_done w n) (behind qs))
-        (λ full left1. then_same (expanded (expand table) its (suc (length (w.done ++ w.out ∷ []))) (first_lists n (behind qs)) left1) (λ fulls. F (behind qs) w.out (full ∷ fulls))
-          (λ fulls. put_for w.name w.means w.raw ((w.done ++ w.out ∷ []) ++ full ∷ fulls) w.hide >>= λ ts. goes_on table ws (before ts (behind_lists n (behind qs))))
-          (λ fulls left2. ap (λ l. (put_for w.name w.means w.raw l w.hide >>= λ ts. goes_on table ws (before ts (behind_lists n (behind qs)))) left2) (sym (append_assoc w.done (w.out ∷ []) (full ∷ fulls)))))
+      (resumes table (goes_on table ws) (with_done w n) (behind qs))
+      (λ full left1. then_same (expanded (expand table) its (suc (length (w.done ++ w.out ∷ []))) (first_lists n (behind qs)) left1) (λ fulls. F (behind qs) w.out (full ∷ fulls))
+      (λ fulls. put_for w.name w.means w.raw ((w.done ++ w.out ∷ []) ++ full ∷ fulls) w.hide >>= λ ts. goes_on table ws (before ts (behind_lists n (behind qs))))
+      (λ fulls left2. ap (λ l. (put_for w.name w.means w.raw l w.hide >>= λ ts. goes_on table ws (before ts (behind_lists n (behind qs)))) left2) (sym (append_assoc w.done (w.out ∷ []) (full ∷ fulls)))))
 
   -- the first argument of a call
   pub goes_first : (ws : List Waiting) (t : Token) (m : MacroText) (raw : Args) (hide : List Text) (n : ℕ) (ps qs : List Piece) (left : ℕ) → IsDropped (is_wanted m 0) ps qs

@@ -1,7 +1,6 @@
 -- A call that is entered, by its slots.
-use Rattle.std.proofs.Common.{◌≡◌, ℕ, suc, ◌+◌, ◌<◌, ◌≤◌, Bool, false, List, [], ◌∷◌, ◌++◌, length, map, drop, refl, sym, ap, subst, ◌∙◌, arith, Some, Option}
+use Rattle.std.proofs.Common.{◌≡◌, ℕ, suc, ◌+◌, ◌<◌, Bool, false, List, [], ◌∷◌, ◌++◌, length, drop, refl, sym, ap, subst, ◌∙◌, arith, Some}
 use Rattle.std.specs.Prelude.{slice_get, slice_index_or}
-use Rattle.std.specs.List.{All}
 use Rattle.std.proofs.lemmas.List.Elements.{All-get_or}
 use Rattle.std.proofs.lemmas.Option.{get_or_from_slice_get, slice_get_within}
 use Rattle.cr_base.specs.declared.token.Name.{Name}
@@ -17,7 +16,7 @@ use Rattle.cr_expand.specs.HideSets.{Sets}
 use Rattle.cr_expand.specs.Held.{hidden, all_args, IsKnown}
 use Rattle.cr_expand.specs.Hiding.{IsHidden}
 use Rattle.cr_expand.specs.Frames.{Call}
-use Rattle.cr_expand.specs.Slots.{tokens, ended, begun, AreSlotsKnown, IsSlotKnown}
+use Rattle.cr_expand.specs.Slots.{tokens, begun, AreSlotsKnown, IsSlotKnown}
 use Rattle.cr_expand.specs.Wanted.{is_wanted}
 use Rattle.cr_expand.specs.Machines.{AreTaken, AreArguments, IsEntered}
 use Rattle.cr_expand.proofs.PartedLists.{get_mid}
@@ -32,10 +31,10 @@ pub closes_at : (slots : List Slot) (a b : Slot) (inside : List Held) (closes : 
 closes_at slots a b inside closes rest close end e f g =
     let l = length_tokens inside in
     same (sym g ∙ ap (λ s. slice_get s close) e
-      ∙ ap (slice_get (a ∷ b ∷ (tokens inside ++ slot.Token closes ∷ rest))) (let x : close ≡ suc (suc (length (tokens inside))) = omega (arith, l) in x)
-      ∙ get_mid (tokens inside) (slot.Token closes) rest) where
-  same : Some (slot.Token end) ≡ Some (slot.Token closes) → end ≡ closes
-  same e = cc
+    ∙ ap (slice_get (a ∷ b ∷ (tokens inside ++ slot.Token closes ∷ rest))) (let x : close ≡ suc (suc (length (tokens inside))) = omega (arith, l) in x)
+    ∙ get_mid (tokens inside) (slot.Token closes) rest) where
+      same : Some (slot.Token end) ≡ Some (slot.Token closes) → end ≡ closes
+      same e = cc
 
 pub slot_known : (names : List Text) (sets : Sets) (slots : List Slot) (n : ℕ) (h : Held) → AreSlotsKnown names sets slots → slice_get slots n ≡ Some (slot.Token h) → IsKnown names sets h
 slot_known names sets slots n h k e =
@@ -67,7 +66,7 @@ entered names old now h m params a b inside closes end rest taken raw more hide 
   hide_known = subst (λ x. x.hide < length now.sets) (sym c) p.known;
   wanted = λ i l. ap (λ x. slice_index_or x.wanted i false) c ∙ w i (let k = ap (λ x. x.more) c in omega (arith, k, l));
   slots = s ∙ ap (λ x. begun x (drop 1 (drop 1 taken))) (g ∙ ap (λ x. slice_index_or x.wanted (length x.done) false) c ∙ w 0 (omega arith))
-    ∙ ap (λ l. begun (is_wanted (macro_text names m) 0) (drop 1 (drop 1 l))) t.slots;
+      ∙ ap (λ l. begun (is_wanted (macro_text names m) 0) (drop 1 (drop 1 l))) t.slots;
   sets_grow = p.grows;
   tables = p.tables;
 }

@@ -1,10 +1,9 @@
 -- A machine that was fed nothing, and what feeding adds.
-use Rattle.std.proofs.Common.{◌≡◌, ℕ, ◌+◌, ◌-◌, ◌<◌, ◌≤◌, Bool, true, false, List, [], ◌∷◌, ◌++◌, length, map, refl, sym, ap, subst, ◌∙◌, arith, append_assoc, append-nil, Option, Some, None}
+use Rattle.std.proofs.Common.{◌≡◌, ◌+◌, ◌-◌, ◌<◌, ◌≤◌, true, List, [], ◌∷◌, ◌++◌, length, map, refl, sym, ap, subst, ◌∙◌, arith, append_assoc, append-nil, Option, Some, None}
 use Rattle.std.specs.List.{All}
 use Rattle.std.proofs.lemmas.List.{map-append}
 use Rattle.std.proofs.lemmas.List.Elements.{All-head, All-tail, All-nil, All-cons, All-append}
 use Rattle.cr_base.specs.NameTable.{IsDistinct}
-use Rattle.cr_base.specs.declared.token.Name.{Name}
 use Rattle.cr_base.specs.declared.token.PpTok.{PpTok}
 use Rattle.cr_macros.specs.declared.fault.ExpandFault.{ExpandFault}
 use Rattle.cr_expand.specs.declared.held.Held.{Held}
@@ -18,13 +17,12 @@ use Rattle.cr_macros.specs.Definition.{text_of}
 use Rattle.cr_macros.specs.Expansion.{expand}
 use Rattle.cr_macros.specs.MacroTables.{Macros, table_of}
 use Rattle.cr_expand.specs.HideSets.{Sets, set_at}
-use Rattle.cr_expand.specs.Held.{held, all_held, IsNamed, IsKnown, AreKnown, AreTables}
+use Rattle.cr_expand.specs.Held.{all_held, IsNamed, IsKnown, AreKnown, AreTables}
 use Rattle.cr_expand.specs.Items.{IsTokenNamed}
-use Rattle.cr_expand.specs.Frames.{Call}
-use Rattle.cr_expand.specs.Running.{Piece, Stands, current, before}
+use Rattle.cr_expand.specs.Running.{Stands, before}
 use Rattle.cr_expand.specs.Slots.{pieces, tokens, ends, IsSlotKnown, AreSlotsKnown}
 use Rattle.cr_expand.specs.Feeding.{all_with, IsPutBack}
-use Rattle.cr_expand.specs.Machines.{still, waiting, total, IsMachine, IsCallKnown}
+use Rattle.cr_expand.specs.Machines.{still, total, IsMachine, IsCallKnown}
 use Rattle.cr_expand.specs.Expanders.{runs_by}
 use Rattle.cr_expand.proofs.Going.{current_before}
 use Rattle.cr_expand.proofs.Steps.{front, front_tokens}
@@ -58,13 +56,13 @@ pub fed_gives : (names : List Text) (macros : Macros) (old now : Machine) (fed :
     → now.sets ≡ old.sets → now.frames.items ≡ old.frames.items → now.file ≡ old.file → now.used ≡ old.used → still names macros now more ≡ still names macros old (tokens_of names fed ++ more)
 fed_gives names macros old now fed more (hide, k, e, s) a b c d =
     rw (a, b, c, d, ap (λ l. front names old.sets l more) s ∙ fronts) refl where
-  fronts : front names old.sets (old.slots.items ++ tokens (all_with hide fed)) more ≡ front names old.sets old.slots.items (tokens_of names fed ++ more)
-  fronts =
-      ap (λ ps. ps ++ before more []) (map-append _ old.slots.items (tokens (all_with hide fed)))
-      ∙ append_assoc (pieces names old.sets old.slots.items) (pieces names old.sets (tokens (all_with hide fed))) (before more [])
-      ∙ ap (λ ps. pieces names old.sets old.slots.items ++ ps) (
-        ap (λ l. pieces names old.sets l ++ before more []) (sym (append-nil (tokens (all_with hide fed)))) ∙ front_tokens names old.sets (all_with hide fed) [] more
-        ∙ ap (λ ts. before ts (before more [])) (all_unhidden names old.sets hide fed e) ∙ sym (before_more (tokens_of names fed) more))
+      fronts : front names old.sets (old.slots.items ++ tokens (all_with hide fed)) more ≡ front names old.sets old.slots.items (tokens_of names fed ++ more)
+      fronts =
+          ap (λ ps. ps ++ before more []) (map-append _ old.slots.items (tokens (all_with hide fed)))
+          ∙ append_assoc (pieces names old.sets old.slots.items) (pieces names old.sets (tokens (all_with hide fed))) (before more [])
+          ∙ ap (λ ps. pieces names old.sets old.slots.items ++ ps) (
+          ap (λ l. pieces names old.sets l ++ before more []) (sym (append-nil (tokens (all_with hide fed)))) ∙ front_tokens names old.sets (all_with hide fed) [] more
+          ∙ ap (λ ts. before ts (before more [])) (all_unhidden names old.sets hide fed e) ∙ sym (before_more (tokens_of names fed) more))
 
 all_with_known : (names : List Text) (sets : Sets) (hide : HideSet) (fed : List PpTok) → hide.0 < length sets → All (IsTokenNamed names) fed → AreKnown names sets (all_with hide fed)
 all_with_known names sets hide [] k a = All-nil (IsKnown names sets)
@@ -82,7 +80,7 @@ pub fed_machine : (names : List Text) (macros : Macros) (old now : Machine) (fed
 fed_machine names macros old now fed (hide, k, e, s) a b c d n t m = record {
   tables = subst (AreTables names) (sym a) m.tables;
   slots = subst (λ z. AreSlotsKnown names z now.slots.items) (sym a) (subst (AreSlotsKnown names old.sets) (sym s)
-    (All-append (IsSlotKnown names old.sets) old.slots.items (tokens (all_with hide fed)) m.slots (tokens_known names old.sets (all_with hide fed) (all_with_known names old.sets hide fed k t))));
+      (All-append (IsSlotKnown names old.sets) old.slots.items (tokens (all_with hide fed)) m.slots (tokens_known names old.sets (all_with hide fed) (all_with_known names old.sets hide fed k t))));
   calls = subst (λ z. All (IsCallKnown names macros z) now.frames.items) (sym a) (subst (λ f. All (IsCallKnown names macros old.sets) f.items) (sym b) m.calls);
   watched = subst (λ x. IsNamed names x.from × IsNamed names x.to) (sym n) m.watched;
   file = subst (IsNamed names) (sym c) m.file;

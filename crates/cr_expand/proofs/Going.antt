@@ -1,14 +1,14 @@
 -- What waiting calls and pieces still give, use by use.
-use Rattle.std.proofs.Common.{◌≡◌, ℕ, zero, suc, ◌+◌, ◌-◌, ◌<◌, ◌≤◌, Bool, true, false, cond, List, [], ◌∷◌, ◌++◌, length, refl, sym, ap, ◌∙◌, arith, append_assoc, append-nil, Option, Some, None}
-use Rattle.std.specs.Prelude.{nat_lt, if◌then◌else◌}
+use Rattle.std.proofs.Common.{◌≡◌, ℕ, suc, ◌-◌, ◌<◌, ◌≤◌, Bool, true, false, cond, List, [], ◌∷◌, ◌++◌, length, refl, sym, ap, ◌∙◌, arith, append_assoc, append-nil}
+use Rattle.std.specs.Prelude.{nat_lt}
 use Rattle.std.specs.List.{list_any}
 use Rattle.std.proofs.lemmas.Bool.Decides.{nat_tests}
 use Rattle.cr_base.specs.declared.token.PpKind.{PpKind}
 use Rattle.cr_base.specs.declared.cause.Role.TheVariants.{MacroName}
-use Rattle.cr_macros.specs.Tokens.{Text, Token, MacroText, Event, Rule, Cause, Over, Answer, Gave, Stopped, Work, after, then_do, ◌>>=◌, give, fail, note, pay, takes, with_name, both}
+use Rattle.cr_macros.specs.Tokens.{Text, Token, MacroText, Event, Rule, Cause, Over, Answer, Gave, Stopped, Work, after, then_do, ◌>>=◌, give, note, pay, takes, with_name, both}
 use Rattle.cr_macros.specs.Substitution.{Args, Item, body_items, is_full, made}
 use Rattle.cr_macros.specs.Substitution
-use Rattle.cr_macros.specs.Expansion.{Table, Use, Keep, Predefined, Object, Call, Wrong, use_of, by_use, rules, expand, expanded, expanded_if, put_in}
+use Rattle.cr_macros.specs.Expansion.{Table, Use, Keep, Predefined, Object, Call, Wrong, use_of, by_use, expand, expanded, expanded_if, put_in}
 use Rattle.cr_macros.specs.Laws.{FollowsTheRules}
 use Rattle.cr_expand.specs.Running.{Piece, Stands, Ends, current, behind, before, first_lists, behind_lists, Waiting, put_for, resumes, goes_on, leads}
 
@@ -105,8 +105,8 @@ module _ (table : Table) (law : FollowsTheRules) where
       → resumes table (goes_on table ws) w ps (t ∷ out) left ≡ resumes table (goes_on table ws) (with_out w t) ps out left
   resumes_out ws w t ps out left =
       ap (λ l. (expanded (expand table) (body_items w.means) (suc (length w.done)) (first_lists w.more ps)
-        >>= λ fulls. put_for w.name w.means w.raw (w.done ++ l ∷ fulls) w.hide
-        >>= λ ts. goes_on table ws (before ts (behind_lists w.more ps))) left) (sym (append_assoc w.out (t ∷ []) out))
+      >>= λ fulls. put_for w.name w.means w.raw (w.done ++ l ∷ fulls) w.hide
+      >>= λ ts. goes_on table ws (before ts (behind_lists w.more ps))) left) (sym (append_assoc w.out (t ∷ []) out))
 
   -- a token of an argument's expansion
   gives_inner : (ws : List Waiting) (w : Waiting) (t : Token) (ps : List Piece) (events : List Event) (r : Answer (List Token))
@@ -115,8 +115,8 @@ module _ (table : Table) (law : FollowsTheRules) where
   gives_inner ws w t ps events r =
       after_then events (then_do r (λ out. give (t ∷ out))) (resumes table (goes_on table ws) w ps)
       ∙ ap (after events) (then_then r (λ out. give (t ∷ out)) (resumes table (goes_on table ws) w ps)
-        ∙ then_same r (λ out. give (t ∷ out) >>= resumes table (goes_on table ws) w ps) (resumes table (goes_on table ws) (with_out w t) ps)
-          (λ out left. after_none (resumes table (goes_on table ws) w ps (t ∷ out) left) ∙ resumes_out ws w t ps out left))
+      ∙ then_same r (λ out. give (t ∷ out) >>= resumes table (goes_on table ws) w ps) (resumes table (goes_on table ws) (with_out w t) ps)
+      (λ out left. after_none (resumes table (goes_on table ws) w ps (t ∷ out) left) ∙ resumes_out ws w t ps out left))
       ∙ leads_none events _
 
   pub inner_keeps : (ws : List Waiting) (w : Waiting) (t : Token) (ps : List Piece) (left : ℕ) → use_of table t (current ps) ≡ Keep
@@ -163,14 +163,14 @@ module _ (table : Table) (law : FollowsTheRules) where
       let r = Substitution.subst name m raw full hide left in
       then_then r (λ ts. put_in ts >>= λ ts1. expand table (ts1 ++ current ps)) (then_goes ws (behind ps))
       ∙ then_same r (λ ts. (put_in ts >>= λ ts1. expand table (ts1 ++ current ps)) >>= then_goes ws (behind ps)) (λ ts. put_in ts >>= λ ts1. goes_on table ws (before ts1 ps))
-        (λ ts left1. then_then (put_in ts left1) (λ ts1. expand table (ts1 ++ current ps)) (then_goes ws (behind ps))
-          ∙ then_same (put_in ts left1) (λ ts1. expand table (ts1 ++ current ps) >>= then_goes ws (behind ps)) (λ ts1. goes_on table ws (before ts1 ps)) (put_before ts))
+      (λ ts left1. then_then (put_in ts left1) (λ ts1. expand table (ts1 ++ current ps)) (then_goes ws (behind ps))
+      ∙ then_same (put_in ts left1) (λ ts1. expand table (ts1 ++ current ps) >>= then_goes ws (behind ps)) (λ ts1. goes_on table ws (before ts1 ps)) (put_before ts))
       ∙ sym (then_then r (λ ts. put_in ts) (λ ts. goes_on table ws (before ts ps))) where
-    put_before : (ts ts1 : List Token) (left2 : ℕ) → then_do (expand table (ts1 ++ current ps) left2) (then_goes ws (behind ps)) ≡ goes_on table ws (before ts1 ps) left2
-    put_before ts ts1 left2 = sym (
-      goes_is ws (before ts1 ps) left2
-      ∙ ap (λ l. then_do (expand table l left2) (then_goes ws (behind (before ts1 ps)))) (current_before ts1 ps)
-      ∙ ap (λ l. then_do (expand table (ts1 ++ current ps) left2) (then_goes ws l)) (behind_before ts1 ps))
+        put_before : (ts ts1 : List Token) (left2 : ℕ) → then_do (expand table (ts1 ++ current ps) left2) (then_goes ws (behind ps)) ≡ goes_on table ws (before ts1 ps) left2
+        put_before ts ts1 left2 = sym (
+            goes_is ws (before ts1 ps) left2
+            ∙ ap (λ l. then_do (expand table l left2) (then_goes ws (behind (before ts1 ps)))) (current_before ts1 ps)
+            ∙ ap (λ l. then_do (expand table (ts1 ++ current ps) left2) (then_goes ws l)) (behind_before ts1 ps))
 
   pub goes_object : (ws : List Waiting) (t : Token) (m : MacroText) (ps : List Piece) (left : ℕ) → use_of table t (current ps) ≡ Object m
       → goes_on table ws (Stands t ∷ ps) left ≡ (put_for t m [] [] (with_name t.text t.hide) >>= λ ts. goes_on table ws (before ts ps)) left
@@ -187,7 +187,7 @@ module _ (table : Table) (law : FollowsTheRules) where
       ∙ ap (λ l. then_do (by_use (expand table) t (current ps) (Call m args close (current qs)) left) (then_goes ws l)) (sym h)
       ∙ then_then r (λ fulls. Substitution.subst t m args fulls hide >>= λ ts. put_in ts >>= λ ts1. expand table (ts1 ++ current qs)) (then_goes ws (behind qs))
       ∙ then_same r (λ fulls. (Substitution.subst t m args fulls hide >>= λ ts. put_in ts >>= λ ts1. expand table (ts1 ++ current qs)) >>= then_goes ws (behind qs))
-        (λ fulls. put_for t m args fulls hide >>= λ ts. goes_on table ws (before ts qs)) (λ fulls left1. puts_on ws t m args fulls hide qs left1)
+      (λ fulls. put_for t m args fulls hide >>= λ ts. goes_on table ws (before ts qs)) (λ fulls left1. puts_on ws t m args fulls hide qs left1)
 
   -- the last argument of a call is expanded
   pub goes_last : (ws : List Waiting) (w : Waiting) (ps : List Piece) (left : ℕ) → w.more ≡ 0
@@ -196,7 +196,7 @@ module _ (table : Table) (law : FollowsTheRules) where
       ap (λ r. then_do r (resumes table (goes_on table ws) w ps)) (law table [] left)
       ∙ after_none (resumes table (goes_on table ws) w ps [] left)
       ∙ ap (λ n. (expanded (expand table) (body_items w.means) (suc (length w.done)) (first_lists n ps)
-        >>= λ fulls. put_for w.name w.means w.raw (w.done ++ (w.out ++ []) ∷ fulls) w.hide >>= λ ts. goes_on table ws (before ts (behind_lists n ps))) left) e
+      >>= λ fulls. put_for w.name w.means w.raw (w.done ++ (w.out ++ []) ∷ fulls) w.hide >>= λ ts. goes_on table ws (before ts (behind_lists n ps))) left) e
       ∙ after_none _
       ∙ ap (λ l. (put_for w.name w.means w.raw (w.done ++ l ∷ []) w.hide >>= λ ts. goes_on table ws (before ts ps)) left) (append-nil w.out)
 
@@ -206,14 +206,14 @@ module _ (table : Table) (law : FollowsTheRules) where
   one_argument b ps qs its i n F left h =
       then_then (expanded_if (expand table) (current ps) b left) (λ full. expanded (expand table) its i (first_lists n (behind ps)) >>= λ fulls. give (full ∷ fulls)) F
       ∙ then_same (expanded_if (expand table) (current ps) b left) (λ full. (expanded (expand table) its i (first_lists n (behind ps)) >>= λ fulls. give (full ∷ fulls)) >>= F)
-        (λ full. expanded (expand table) its i (first_lists n (behind ps)) >>= λ fulls. F (full ∷ fulls))
-        (λ full left1. then_then (expanded (expand table) its i (first_lists n (behind ps)) left1) (λ fulls. give (full ∷ fulls)) F
-          ∙ then_same (expanded (expand table) its i (first_lists n (behind ps)) left1) (λ fulls. give (full ∷ fulls) >>= F) (λ fulls. F (full ∷ fulls)) (λ fulls left2. after_none (F (full ∷ fulls) left2)))
+      (λ full. expanded (expand table) its i (first_lists n (behind ps)) >>= λ fulls. F (full ∷ fulls))
+      (λ full left1. then_then (expanded (expand table) its i (first_lists n (behind ps)) left1) (λ fulls. give (full ∷ fulls)) F
+      ∙ then_same (expanded (expand table) its i (first_lists n (behind ps)) left1) (λ fulls. give (full ∷ fulls) >>= F) (λ fulls. F (full ∷ fulls)) (λ fulls left2. after_none (F (full ∷ fulls) left2)))
       ∙ by_wanted b qs h where
-    by_wanted : (b : Bool) (qs : List Piece) → IsDropped b ps qs
-        → then_do (expanded_if (expand table) (current ps) b left) (λ full. expanded (expand table) its i (first_lists n (behind ps)) >>= λ fulls. F (full ∷ fulls))
-        ≡ then_do (expand table (current qs) left) (λ full. expanded (expand table) its i (first_lists n (behind qs)) >>= λ fulls. F (full ∷ fulls))
-    by_wanted true qs h = ap (λ l. then_do (expand table (current l) left) (λ full. expanded (expand table) its i (first_lists n (behind l)) >>= λ fulls. F (full ∷ fulls))) (sym h)
-    by_wanted false qs h =
-        ap (λ r. then_do r (λ full. expanded (expand table) its i (first_lists n (behind ps)) >>= λ fulls. F (full ∷ fulls))) (sym (law table [] left))
-        ∙ ap (λ l. then_do (expand table (current l) left) (λ full. expanded (expand table) its i (first_lists n (behind l)) >>= λ fulls. F (full ∷ fulls))) (sym h)
+        by_wanted : (b : Bool) (qs : List Piece) → IsDropped b ps qs
+            → then_do (expanded_if (expand table) (current ps) b left) (λ full. expanded (expand table) its i (first_lists n (behind ps)) >>= λ fulls. F (full ∷ fulls))
+            ≡ then_do (expand table (current qs) left) (λ full. expanded (expand table) its i (first_lists n (behind qs)) >>= λ fulls. F (full ∷ fulls))
+        by_wanted true qs h = ap (λ l. then_do (expand table (current l) left) (λ full. expanded (expand table) its i (first_lists n (behind l)) >>= λ fulls. F (full ∷ fulls))) (sym h)
+        by_wanted false qs h =
+            ap (λ r. then_do r (λ full. expanded (expand table) its i (first_lists n (behind ps)) >>= λ fulls. F (full ∷ fulls))) (sym (law table [] left))
+            ∙ ap (λ l. then_do (expand table (current l) left) (λ full. expanded (expand table) its i (first_lists n (behind l)) >>= λ fulls. F (full ∷ fulls))) (sym h)

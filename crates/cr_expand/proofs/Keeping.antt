@@ -1,10 +1,8 @@
 -- What a machine holds stays known.
-use Rattle.std.proofs.Common.{◌≡◌, ℕ, suc, ◌+◌, ◌-◌, ◌<◌, ◌≤◌, Bool, false, List, [], ◌∷◌, ◌++◌, length, map, drop, refl, sym, ap, subst, ◌∙◌, arith, length-append, Option, Some, None}
-use Rattle.std.specs.Prelude.{slice_index_or}
+use Rattle.std.proofs.Common.{◌≡◌, ◌<◌, ◌≤◌, Bool, List, [], ◌∷◌, ◌++◌, length, drop, refl, sym, ap, subst, ◌∙◌, arith, length-append, Option, Some, None}
 use Rattle.std.specs.List.{All}
-use Rattle.std.proofs.lemmas.List.Elements.{All-head, All-tail, All-weaker, All-nil, All-cons, All-append}
+use Rattle.std.proofs.lemmas.List.Elements.{All-tail, All-weaker, All-nil, All-cons, All-append}
 use Rattle.cr_base.specs.declared.token.Name.{Name}
-use Rattle.cr_base.specs.declared.token.PpTok.{PpTok}
 use Rattle.cr_macros.specs.declared.macros.Macro.{Macro}
 use Rattle.cr_expand.specs.declared.held.Held.{Held}
 use Rattle.cr_expand.specs.declared.slot.Slot.{Slot}
@@ -17,12 +15,11 @@ use Rattle.cr_macros.specs.Tokens.{Text}
 use Rattle.cr_macros.specs.MacroTables.{Macros, macro_named, macro_text}
 use Rattle.cr_expand.specs.HideSets.{Sets, Grows}
 use Rattle.cr_expand.specs.Held.{IsNamed, IsKnown, AreKnown, AreTables}
-use Rattle.cr_expand.specs.Items.{IsMacroKnown, IsTokenNamed, AreNamed}
+use Rattle.cr_expand.specs.Items.{IsTokenNamed, AreNamed}
 use Rattle.cr_expand.specs.Frames.{Call}
 use Rattle.cr_expand.specs.Slots.{tokens, ended, ends, begun, IsSlotKnown, AreSlotsKnown}
-use Rattle.cr_expand.specs.Turns.{IsCallUse}
 use Rattle.cr_expand.specs.Wanted.{is_wanted}
-use Rattle.cr_expand.specs.Machines.{means_of, total, IsCallHeld, IsCallKnown, IsMachine, AreMacros, IsGiven, IsSameRun, IsPut, IsEntered, next_call}
+use Rattle.cr_expand.specs.Machines.{means_of, total, IsCallKnown, IsMachine, AreMacros, IsGiven, IsSameRun, IsEntered, next_call}
 use Rattle.cr_expand.proofs.Kept.{named_later, known_later, all_known_later, args_known_later, longer}
 use Rattle.cr_expand.proofs.KeptMachine.{means_kept}
 use Rattle.cr_expand.proofs.Looked.{found_known}
@@ -43,12 +40,17 @@ params_later names new g (Some ns) a = All-weaker (IsNamed names) (IsNamed new) 
 pub macros_later : (names new : List Text) → Grows names new → (macros : Macros) → AreMacros names macros → AreMacros new macros
 macros_later names new g macros a = record {
   known = λ n m e.
-    let k = a.known n m e in
-    (named_later names new n g k.0, (record {
-      name = named_later names new m.name g k.1.0.name;
-      params = params_later names new g m.params k.1.0.params;
-      body = All-weaker (IsTokenNamed names) (IsTokenNamed new) (λ t b. named_later names new t.text g b) m.body k.1.0.body;
-    }, k.1.1));
+      let k = a.known n m e in (
+        named_later names new n g k.0,
+        (
+          record {
+            name = named_later names new m.name g k.1.0.name;
+            params = params_later names new g m.params k.1.0.params;
+            body = All-weaker (IsTokenNamed names) (IsTokenNamed new) (λ t b. named_later names new t.text g b) m.body k.1.0.body;
+          },
+          k.1.1,
+        ),
+      );
 }
 
 module _ (names new : List Text) (macros : Macros) (sets more : Sets) (g : Grows names new) (k : Grows sets more) (known : AreMacros names macros) where
@@ -74,20 +76,21 @@ pub given_calls : (names : List Text) (macros : Macros) (sets : Sets) (old : Lis
 given_calls names macros sets old h now (step.Out t) i a b = (subst (All (IsCallKnown names macros sets)) (sym i.1) (All-nil (IsCallKnown names macros sets)), ap total i.1 ∙ sym (ap total i.0))
 given_calls names macros sets old h now step.More (cs, c, e, f) a b =
     let all = subst (All (IsCallKnown names macros sets)) e b in
-    let one = all_last (IsCallKnown names macros sets) cs c all in
-    (subst (All (IsCallKnown names macros sets)) (sym f) (All-append (IsCallKnown names macros sets) cs (record c { out = c.out ++ h ∷ [] } ∷ []) (all_front (IsCallKnown names macros sets) cs c all)
-      (All-cons (IsCallKnown names macros sets) (record c { out = c.out ++ h ∷ [] }) [] (record {
-        holds = record {
-          name = one.holds.name;
-          hide = one.holds.hide;
-          raw = one.holds.raw;
-          done = one.holds.done;
-          out = All-append (IsKnown names sets) c.out (h ∷ []) one.holds.out (All-cons (IsKnown names sets) h [] a (All-nil (IsKnown names sets)));
-          macro = one.holds.macro;
-        };
-        wanted = one.wanted;
-      }) (All-nil (IsCallKnown names macros sets)))),
-     ap total f ∙ total_last cs (record c { out = c.out ++ h ∷ [] }) ∙ sym (total_last cs c) ∙ sym (ap total e))
+    let one = all_last (IsCallKnown names macros sets) cs c all in (
+      subst (All (IsCallKnown names macros sets)) (sym f) (All-append (IsCallKnown names macros sets) cs (record c { out = c.out ++ h ∷ [] } ∷ []) (all_front (IsCallKnown names macros sets) cs c all)
+          (All-cons (IsCallKnown names macros sets) (record c { out = c.out ++ h ∷ [] }) [] (record {
+            holds = record {
+              name = one.holds.name;
+              hide = one.holds.hide;
+              raw = one.holds.raw;
+              done = one.holds.done;
+              out = All-append (IsKnown names sets) c.out (h ∷ []) one.holds.out (All-cons (IsKnown names sets) h [] a (All-nil (IsKnown names sets)));
+              macro = one.holds.macro;
+            };
+            wanted = one.wanted;
+          }) (All-nil (IsCallKnown names macros sets)))),
+      ap total f ∙ total_last cs (record c { out = c.out ++ h ∷ [] }) ∙ sym (total_last cs c) ∙ sym (ap total e),
+    )
 given_calls names macros sets old h now step.Hungry i a b = absurd i
 given_calls names macros sets old h now step.End i a b = absurd i
 
@@ -146,20 +149,20 @@ module _ (names new : List Text) (macros : Macros) (old now : Machine) (mach : I
       let ld = length-append c.done (c.out ∷ []) in
       machine (subst (AreSlotsKnown new now.sets) (sym s) (begun_known new now.sets b rest (rest_later slot.End rest e)))
       (subst (All (IsCallKnown new macros now.sets)) (sym n) (All-append (IsCallKnown new macros now.sets) cs (next_call c ∷ []) (all_front (IsCallKnown new macros now.sets) cs c all)
-        (All-cons (IsCallKnown new macros now.sets) (next_call c) [] (record {
-          holds = record {
-            name = one.holds.name;
-            hide = one.holds.hide;
-            raw = one.holds.raw;
-            done = All-append (AreKnown new now.sets) c.done (c.out ∷ []) one.holds.done (All-cons (AreKnown new now.sets) c.out [] one.holds.out (All-nil (AreKnown new now.sets)));
-            out = All-nil (IsKnown new now.sets);
-            macro = one.holds.macro;
-          };
-          wanted = λ i h. one.wanted i (omega (arith, h, ld, m));
-        }) (All-nil (IsCallKnown new macros now.sets)))))
+      (All-cons (IsCallKnown new macros now.sets) (next_call c) [] (record {
+        holds = record {
+          name = one.holds.name;
+          hide = one.holds.hide;
+          raw = one.holds.raw;
+          done = All-append (AreKnown new now.sets) c.done (c.out ∷ []) one.holds.done (All-cons (AreKnown new now.sets) c.out [] one.holds.out (All-nil (AreKnown new now.sets)));
+          out = All-nil (IsKnown new now.sets);
+          macro = one.holds.macro;
+        };
+        wanted = λ i h. one.wanted i (omega (arith, h, ld, m));
+      }) (All-nil (IsCallKnown new macros now.sets)))))
       (ap ends s ∙ ends_begun b rest
-        ∙ (let t1 = mach.ends in let t2 = ap ends e in let t3 = ap total f in let t4 = total_last cs c in let t5 = total_last cs (next_call c) in let q : ends rest ≡ total (cs ++ next_call c ∷ []) = omega (arith, t1, t2, t3, t4, t5, m) in q)
-        ∙ sym (ap total n)) l
+      ∙ (let t1 = mach.ends in let t2 = ap ends e in let t3 = ap total f in let t4 = total_last cs c in let t5 = total_last cs (next_call c) in let q : ends rest ≡ total (cs ++ next_call c ∷ []) = omega (arith, t1, t2, t3, t4, t5, m) in q)
+      ∙ sym (ap total n)) l
 
   pub enter_machine : (h : Held) (m : Macro) (params : List Name) (inside : List Held) (closes opens : Held) (rest : List Slot) → old.slots.items ≡ slot.Token h ∷ slot.Token opens ∷ (tokens inside ++ slot.Token closes ∷ rest)
       → macro_named h.token.text macros ≡ Some m → (i : IsEntered names old now h m params inside closes rest) → AreSlotsKnown new now.sets now.slots.items → All (AreKnown new now.sets) i.call.raw → IsKnown new now.sets h → new ≡ names → now.used ≤ LIMIT
@@ -167,20 +170,20 @@ module _ (names new : List Text) (macros : Macros) (old now : Machine) (mach : I
   enter_machine h m params inside closes opens rest e looked i sk rk hk x l =
       machine sk
       (subst (All (IsCallKnown new macros now.sets)) (sym i.frames) (All-append (IsCallKnown new macros now.sets) old.frames.items (i.call ∷ []) all_later
-        (All-cons (IsCallKnown new macros now.sets) i.call [] (record {
-          holds = record {
-            name = subst (IsKnown new now.sets) (sym i.name) hk;
-            hide = i.hide_known;
-            raw = rk;
-            done = subst (All (AreKnown new now.sets)) (sym i.done) (All-nil (AreKnown new now.sets));
-            out = subst (AreKnown new now.sets) (sym i.out) (All-nil (IsKnown new now.sets));
-            macro = (m, here);
-          };
-          wanted = λ j q. i.wanted j (let z = ap length i.done in omega (arith, q, z)) ∙ ap (λ y. is_wanted (macro_text y m) j) (sym x) ∙ ap (λ o. is_wanted (means_of new o) j) (sym here);
-        }) (All-nil (IsCallKnown new macros now.sets)))))
+      (All-cons (IsCallKnown new macros now.sets) i.call [] (record {
+        holds = record {
+          name = subst (IsKnown new now.sets) (sym i.name) hk;
+          hide = i.hide_known;
+          raw = rk;
+          done = subst (All (AreKnown new now.sets)) (sym i.done) (All-nil (AreKnown new now.sets));
+          out = subst (AreKnown new now.sets) (sym i.out) (All-nil (IsKnown new now.sets));
+          macro = (m, here);
+        };
+        wanted = λ j q. i.wanted j (let z = ap length i.done in omega (arith, q, z)) ∙ ap (λ y. is_wanted (macro_text y m) j) (sym x) ∙ ap (λ o. is_wanted (means_of new o) j) (sym here);
+      }) (All-nil (IsCallKnown new macros now.sets)))))
       (ap ends i.slots ∙ ends_begun (is_wanted (macro_text names m) 0) (ended i.lists ++ rest)
-        ∙ (let t1 = mach.ends in let t2 = ap ends e in let t3 = ends_inside inside (slot.Token closes) rest in let t4 = ends_lists i.lists rest in let t5 = total_last old.frames.items i.call in let t6 = i.count in
-          let q : ends (ended i.lists ++ rest) ≡ total (old.frames.items ++ i.call ∷ []) = omega (arith, t1, t2, t3, t4, t5, t6) in q)
-        ∙ sym (ap total i.frames)) l where
-    here : macro_named i.call.name.token.text macros ≡ Some m
-    here = ap (λ z. macro_named z.token.text macros) i.name ∙ looked
+      ∙ (let t1 = mach.ends in let t2 = ap ends e in let t3 = ends_inside inside (slot.Token closes) rest in let t4 = ends_lists i.lists rest in let t5 = total_last old.frames.items i.call in let t6 = i.count in
+      let q : ends (ended i.lists ++ rest) ≡ total (old.frames.items ++ i.call ∷ []) = omega (arith, t1, t2, t3, t4, t5, t6) in q)
+      ∙ sym (ap total i.frames)) l where
+        here : macro_named i.call.name.token.text macros ≡ Some m
+        here = ap (λ z. macro_named z.token.text macros) i.name ∙ looked

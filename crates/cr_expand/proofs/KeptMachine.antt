@@ -1,16 +1,14 @@
 -- What a machine still gives stays as it was when the tables grow.
-use Rattle.std.proofs.Common.{◌≡◌, ℕ, ◌<◌, Bool, true, false, List, [], ◌∷◌, ◌++◌, length, map, reverse, refl, sym, ap, ◌∙◌, arith, Option, Some, None}
+use Rattle.std.proofs.Common.{◌≡◌, Bool, true, false, List, [], ◌∷◌, map, refl, sym, ap, ◌∙◌, arith, Option, Some, None}
 use Rattle.std.specs.Prelude.{option_map, bytes_eq, ◌==◌, if◌then◌else◌}
 use Rattle.std.proofs.lemmas.Bool.Decides.{nat_tests}
 use Rattle.std.specs.List.{All}
 use Rattle.std.specs.Map.{lookup}
 use Rattle.std.proofs.Math.Path.{fun_ext}
-use Rattle.std.proofs.lemmas.List.{map-append, reverse-append}
-use Rattle.std.proofs.lemmas.List.Elements.{All-head, All-tail, All-weaker}
+use Rattle.std.proofs.lemmas.List.Elements.{All-head, All-tail}
 use Rattle.cr_base.specs.declared.token.Name.{Name}
 use Rattle.cr_base.specs.declared.token.PpTok.{PpTok}
 use Rattle.cr_macros.specs.declared.macros.Macro.{Macro}
-use Rattle.cr_expand.specs.declared.held.Held.{Held}
 use Rattle.cr_expand.specs.declared.slot.Slot.{Slot}
 use Rattle.cr_expand.specs.declared.slot.Slot.TheVariants as slot
 use Rattle.cr_macros.specs.Tokens.{Text, Token, MacroText, tokens_of, token_of}
@@ -18,14 +16,14 @@ use Rattle.cr_macros.specs.Definition.{text_of}
 use Rattle.cr_macros.specs.Expansion.{Table}
 use Rattle.cr_macros.specs.MacroTables.{Macros, macro_named, macro_text, table_of}
 use Rattle.cr_expand.specs.HideSets.{Sets, Grows}
-use Rattle.cr_expand.specs.Held.{held, all_held, all_args, hidden, IsNamed, IsKnown, AreKnown}
+use Rattle.cr_expand.specs.Held.{IsNamed}
 use Rattle.cr_expand.specs.Items.{IsMacroKnown, IsTokenNamed, AreNamed}
 use Rattle.cr_expand.specs.Heading.{IsEntryKnown, AreMacrosKnown}
 use Rattle.cr_expand.specs.Frames.{Call}
-use Rattle.cr_expand.specs.Running.{Waiting, Piece, Stands}
+use Rattle.cr_expand.specs.Running.{Waiting, Stands}
 use Rattle.cr_expand.specs.Slots.{piece, pieces, IsSlotKnown, AreSlotsKnown}
-use Rattle.cr_expand.specs.Machines.{means_of, waiting_of, waiting, IsCallHeld, AreMacros}
-use Rattle.cr_expand.proofs.Kept.{name_kept, names_kept, token_kept, held_kept, all_held_kept, all_args_kept, hidden_kept, known_later, all_known_later, args_known_later, named_later}
+use Rattle.cr_expand.specs.Machines.{means_of, waiting_of, IsCallHeld, AreMacros}
+use Rattle.cr_expand.proofs.Kept.{name_kept, names_kept, token_kept, held_kept, all_held_kept, all_args_kept, hidden_kept}
 use Rattle.cr_expand.proofs.Looked.{found_known, keys_known}
 
 module _ (names new : List Text) (g : Grows names new) where
@@ -56,8 +54,8 @@ module _ (names new : List Text) (g : Grows names new) where
     other_name e xs n q p true r =
         let same : n.0 ≡ e.0.0 = grind (arith, nat_tests) in
         absurd (no (sym p ∙ ap (λ i. bytes_eq text (text_of names (record { 0 = i }))) same ∙ q)) where
-      no : true ≡ false → ⊥
-      no z = cc
+          no : true ≡ false → ⊥
+          no z = cc
 
     skips_more : (e : Name × Macro) (xs : Macros) → Skips (e ∷ xs) → bytes_eq text (text_of names e.0) ≡ false → Skips xs
     skips_more e xs s q = λ n p. s n p ∙ other_name e xs n q p (n.0 == e.0.0) refl
@@ -68,11 +66,11 @@ module _ (names new : List Text) (g : Grows names new) where
     lookup_kept (e ∷ xs) h s =
         ap (λ t. option_map (macro_text new) (if bytes_eq text t then Some e.1 else lookup (λ k. bytes_eq text (text_of new k)) xs)) (name_kept names new e.0 g (All-head (IsEntryKnown names) e xs h))
         ∙ by (λ t. lookup_kept xs (All-tail (IsEntryKnown names) e xs h) t) (bytes_eq text (text_of names e.0)) refl where
-      by : (Skips xs → option_map (macro_text new) (lookup (λ k. bytes_eq text (text_of new k)) xs) ≡ option_map (macro_text names) (lookup (λ k. bytes_eq text (text_of names k)) xs))
-          → (b : Bool) → bytes_eq text (text_of names e.0) ≡ b
-          → option_map (macro_text new) (if b then Some e.1 else lookup (λ k. bytes_eq text (text_of new k)) xs) ≡ option_map (macro_text names) (if b then Some e.1 else lookup (λ k. bytes_eq text (text_of names k)) xs)
-      by r true q = ap Some (macro_kept e.1 (known e.0 e.1 (first_found e xs s q)))
-      by r false q = r (skips_more e xs s q)
+          by : (Skips xs → option_map (macro_text new) (lookup (λ k. bytes_eq text (text_of new k)) xs) ≡ option_map (macro_text names) (lookup (λ k. bytes_eq text (text_of names k)) xs))
+              → (b : Bool) → bytes_eq text (text_of names e.0) ≡ b
+              → option_map (macro_text new) (if b then Some e.1 else lookup (λ k. bytes_eq text (text_of new k)) xs) ≡ option_map (macro_text names) (if b then Some e.1 else lookup (λ k. bytes_eq text (text_of names k)) xs)
+          by r true q = ap Some (macro_kept e.1 (known e.0 e.1 (first_found e xs s q)))
+          by r false q = r (skips_more e xs s q)
 
   pub table_kept : (macros : Macros) (file : Name) → AreMacros names macros → IsNamed names file → table_of new macros (text_of new file) ≡ table_of names macros (text_of names file)
   table_kept macros file h k =
@@ -93,9 +91,9 @@ module _ (names new : List Text) (g : Grows names new) where
         (all_args_kept names new sets more c.raw g k named h.raw)
         (all_args_kept names new sets more c.done g k named h.done)
         (all_held_kept names new sets more c.out g k named h.out) where
-      same : (n1 n2 : Token) (m1 m2 : MacroText) (h1 h2 : List Text) (r1 r2 d1 d2 : List (List Token)) (o1 o2 : List Token) → n1 ≡ n2 → m1 ≡ m2 → h1 ≡ h2 → r1 ≡ r2 → d1 ≡ d2 → o1 ≡ o2
-          → ◌≡◌ {A = Waiting} (record { name = n1; means = m1; hide = h1; raw = r1; done = d1; out = o1; more = c.more }) (record { name = n2; means = m2; hide = h2; raw = r2; done = d2; out = o2; more = c.more })
-      same n1 n2 m1 m2 h1 h2 r1 r2 d1 d2 o1 o2 a b c d e f = cc
+          same : (n1 n2 : Token) (m1 m2 : MacroText) (h1 h2 : List Text) (r1 r2 d1 d2 : List (List Token)) (o1 o2 : List Token) → n1 ≡ n2 → m1 ≡ m2 → h1 ≡ h2 → r1 ≡ r2 → d1 ≡ d2 → o1 ≡ o2
+              → ◌≡◌ {A = Waiting} (record { name = n1; means = m1; hide = h1; raw = r1; done = d1; out = o1; more = c.more }) (record { name = n2; means = m2; hide = h2; raw = r2; done = d2; out = o2; more = c.more })
+          same n1 n2 m1 m2 h1 h2 r1 r2 d1 d2 o1 o2 a b c d e f = cc
 
     pub all_waiting_kept : (cs : List Call) → All (IsCallHeld names macros sets) cs → map (waiting_of new macros more) cs ≡ map (waiting_of names macros sets) cs
     all_waiting_kept [] h = refl
@@ -108,6 +106,6 @@ module _ (names new : List Text) (g : Grows names new) where
     pieces_kept (s ∷ slots) h =
         ap (λ p. p ∷ pieces new more slots) (one s (All-head (IsSlotKnown names sets) s slots h))
         ∙ ap (λ ps. piece names sets s ∷ ps) (pieces_kept slots (All-tail (IsSlotKnown names sets) s slots h)) where
-      one : (s : Slot) → IsSlotKnown names sets s → piece new more s ≡ piece names sets s
-      one (slot.Token t) h = ap Stands (held_kept names new sets more t g k named h)
-      one slot.End h = refl
+          one : (s : Slot) → IsSlotKnown names sets s → piece new more s ≡ piece names sets s
+          one (slot.Token t) h = ap Stands (held_kept names new sets more t g k named h)
+          one slot.End h = refl

@@ -1,5 +1,5 @@
 -- A call's tokens parted by commas, one after another.
-use Rattle.std.proofs.Common.{◌≡◌, ℕ, zero, suc, ◌+◌, ◌-◌, ◌<◌, ◌≤◌, Bool, true, false, cond, List, [], ◌∷◌, ◌++◌, length, map, set, refl, sym, ap, subst, ◌∙◌, arith, append_assoc, append-nil, length-append, Option, Some, None}
+use Rattle.std.proofs.Common.{◌≡◌, ℕ, suc, ◌+◌, ◌-◌, ◌<◌, ◌≤◌, Bool, true, false, cond, List, [], ◌∷◌, ◌++◌, length, set, refl, sym, ap, subst, ◌∙◌, arith, append_assoc, append-nil, length-append, Option, Some, None}
 use Rattle.std.specs.Prelude.{codes, ◌==◌, ◌&&◌, nat_le, if◌then◌else◌, slice_get}
 use Rattle.std.proofs.lemmas.List.{map-append}
 use Rattle.std.specs.List.{All}
@@ -60,7 +60,7 @@ parting_stays : (names : List Text) (n : ℕ) (before : List Held) (lists : List
 parting_stays names n before lists list commas depth d h e k = λ sets ts.
     ap (parted n 0) (all_held_more names sets before h ts) ∙ k sets (held names sets h ∷ ts)
     ∙ ap (λ a. all_args names sets lists ++ onto (all_held names sets list) a)
-      (parted_at commas depth (held names sets h) ts ∙ ap (λ o. by_part commas (held names sets h) ts o depth) (e sets))
+    (parted_at commas depth (held names sets h) ts ∙ ap (λ o. by_part commas (held names sets h) ts o depth) (e sets))
     ∙ ap (λ a. all_args names sets lists ++ a) (onto_more (all_held names sets list) (held names sets h) (parted commas d ts))
     ∙ ap (λ l. all_args names sets lists ++ onto l (parted commas d ts)) (sym (map-append (λ x. held names sets x) list (h ∷ [])))
 
@@ -70,7 +70,7 @@ parting_parts : (names : List Text) (n : ℕ) (before : List Held) (lists : List
 parting_parts names n before lists list commas depth h e k = λ sets ts.
     ap (parted n 0) (all_held_more names sets before h ts) ∙ k sets (held names sets h ∷ ts)
     ∙ ap (λ a. all_args names sets lists ++ onto (all_held names sets list) a)
-      (parted_at commas depth (held names sets h) ts ∙ ap (λ o. by_part commas (held names sets h) ts o depth) (e sets))
+    (parted_at commas depth (held names sets h) ts ∙ ap (λ o. by_part commas (held names sets h) ts o depth) (e sets))
     ∙ ap (λ a. all_args names sets lists ++ a) (onto_new (all_held names sets list) (parted (commas - 1) depth ts))
     ∙ sym (append_assoc (all_args names sets lists) (all_held names sets list ∷ []) (parted (commas - 1) depth ts))
     ∙ ap (λ l. l ++ parted (commas - 1) depth ts) (sym (map-append (all_held names sets) lists (list ∷ [])))
@@ -144,20 +144,24 @@ module _ (names : List Text) (n : ℕ) (slots : List Slot) (i : ℕ) (lists : Li
   here_stays h d lt g e (before, [], p, q, r, s, t, u, v) = let l = ap length p in let m = length-append before [] in absurd (omega (arith, l, m, f, lt))
   here_stays h d lt g e (before, x ∷ left, p, q, r, s, t, u, v) =
       let same : slot.Token x ≡ slot.Token h = by (sym (at_token before left x q r s) ∙ g) in
-      let w : x ≡ h = token_same x h same in
-      (before ++ h ∷ [], left,
+      let w : x ≡ h = token_same x h same in (
+        before ++ h ∷ [],
+        left,
         more_of before left h (p ∙ ap (λ y. before ++ y ∷ left) w),
         (let l = longer before h in omega (arith, l)),
         ap length (ap (λ l. ended lists ++ l) (tokens_append list (h ∷ [])) ∙ sym (append_assoc (ended lists) (tokens list) (slot.Token h ∷ []))) ∙ length-append (ended lists ++ tokens list) (slot.Token h ∷ []) ∙ ap (λ k. k + 1) r ∙ sym (longer before h),
         s ∙ ap (λ y. a ∷ b ∷ ((ended lists ++ tokens list) ++ (y ∷ (tokens left ++ end ∷ rest)))) same
-          ∙ ap (λ l. a ∷ b ∷ l) (sym (append_assoc (ended lists ++ tokens list) (slot.Token h ∷ []) (tokens left ++ end ∷ rest))
+            ∙ ap (λ l. a ∷ b ∷ l) (sym (append_assoc (ended lists ++ tokens list) (slot.Token h ∷ []) (tokens left ++ end ∷ rest))
             ∙ ap (λ l. l ++ (tokens left ++ end ∷ rest)) (append_assoc (ended lists) (tokens list) (slot.Token h ∷ []) ∙ ap (λ l. ended lists ++ l) (sym (tokens_append list (h ∷ []))))),
-        parting_stays names n before lists list commas depth d h e t, u,
-        All-append (IsAmong inside) list (h ∷ []) v (All-cons (IsAmong inside) h [] (among before left h (p ∙ ap (λ y. before ++ y ∷ left) w)) (All-nil (IsAmong inside)))) where
-    by : {x y : Slot} → Some x ≡ Some y → x ≡ y
-    by e = cc
-    token_same : (x y : Held) → slot.Token x ≡ slot.Token y → x ≡ y
-    token_same x y e = cc
+        parting_stays names n before lists list commas depth d h e t,
+        u,
+        All-append (IsAmong inside) list (h ∷ []) v (All-cons (IsAmong inside) h [] (among before left h (p ∙ ap (λ y. before ++ y ∷ left) w)) (All-nil (IsAmong inside))),
+      ) where
+        by : {x y : Slot} → Some x ≡ Some y → x ≡ y
+        by e = cc
+
+        token_same : (x y : Held) → slot.Token x ≡ slot.Token y → x ≡ y
+        token_same x y e = cc
 
   pub here_parts : (h : Held) → i < close → slice_get slots i ≡ Some (slot.Token h) → ((sets : Sets) → part_at commas depth (held names sets h) ≡ None) → Here
       → PartedHere names n (set slots i slot.End) (i + 1) (lists ++ list ∷ []) [] (commas - 1) depth a b end inside rest
@@ -165,33 +169,38 @@ module _ (names : List Text) (n : ℕ) (slots : List Slot) (i : ℕ) (lists : Li
   here_parts h lt g e (before, x ∷ left, p, q, r, s, t, u, v) =
       let same : slot.Token x ≡ slot.Token h = by (sym (at_token before left x q r s) ∙ g) in
       let w : x ≡ h = token_same x h same in
-      let grown : (ended lists ++ tokens list) ++ slot.End ∷ [] ≡ ended (lists ++ list ∷ []) ++ [] = append_assoc (ended lists) (tokens list) (slot.End ∷ []) ∙ sym (ended_more lists list) ∙ sym (append-nil (ended (lists ++ list ∷ []))) in
-      (before ++ h ∷ [], left,
+      let grown : (ended lists ++ tokens list) ++ slot.End ∷ [] ≡ ended (lists ++ list ∷ []) ++ [] = append_assoc (ended lists) (tokens list) (slot.End ∷ []) ∙ sym (ended_more lists list) ∙ sym (append-nil (ended (lists ++ list ∷ []))) in (
+        before ++ h ∷ [],
+        left,
         more_of before left h (p ∙ ap (λ y. before ++ y ∷ left) w),
         (let l = longer before h in omega (arith, l)),
         ap length (sym grown) ∙ length-append (ended lists ++ tokens list) (slot.End ∷ []) ∙ ap (λ k. k + 1) r ∙ sym (longer before h),
         ap (λ l. set l i slot.End) s
-          ∙ ap (λ k. set (a ∷ b ∷ ((ended lists ++ tokens list) ++ (slot.Token x ∷ (tokens left ++ end ∷ rest)))) k slot.End) (let y : i ≡ suc (suc (length (ended lists ++ tokens list))) = omega arith in y)
-          ∙ ap (λ l. a ∷ b ∷ l) (set_mid (ended lists ++ tokens list) (slot.Token x) slot.End (tokens left ++ end ∷ rest)
+            ∙ ap (λ k. set (a ∷ b ∷ ((ended lists ++ tokens list) ++ (slot.Token x ∷ (tokens left ++ end ∷ rest)))) k slot.End) (let y : i ≡ suc (suc (length (ended lists ++ tokens list))) = omega arith in y)
+            ∙ ap (λ l. a ∷ b ∷ l) (set_mid (ended lists ++ tokens list) (slot.Token x) slot.End (tokens left ++ end ∷ rest)
             ∙ sym (append_assoc (ended lists ++ tokens list) (slot.End ∷ []) (tokens left ++ end ∷ rest)) ∙ ap (λ l. l ++ (tokens left ++ end ∷ rest)) grown),
         parting_parts names n before lists list commas depth h e t,
-        All-append (All (IsAmong inside)) lists (list ∷ []) u (All-cons (All (IsAmong inside)) list [] v (All-nil (All (IsAmong inside)))), All-nil (IsAmong inside)) where
-    by : {x y : Slot} → Some x ≡ Some y → x ≡ y
-    by e = cc
-    token_same : (x y : Held) → slot.Token x ≡ slot.Token y → x ≡ y
-    token_same x y e = cc
+        All-append (All (IsAmong inside)) lists (list ∷ []) u (All-cons (All (IsAmong inside)) list [] v (All-nil (All (IsAmong inside)))),
+        All-nil (IsAmong inside),
+      ) where
+        by : {x y : Slot} → Some x ≡ Some y → x ≡ y
+        by e = cc
+
+        token_same : (x y : Held) → slot.Token x ≡ slot.Token y → x ≡ y
+        token_same x y e = cc
 
   pub here_ends : i ≡ close → Here → ArePartedAt names n a b inside rest (lists ++ list ∷ []) (set slots i slot.End)
   here_ends c (before, x ∷ left, p, q, r, s, t, u, v) = let l = ap length p in let m = length-append before (x ∷ left) in absurd (omega (arith, l, m, f, c))
-  here_ends c (before, [], p, q, r, s, t, u, v) =
-      (ap (λ l. set l i slot.End) s
+  here_ends c (before, [], p, q, r, s, t, u, v) = (
+    ap (λ l. set l i slot.End) s
         ∙ ap (λ k. set (a ∷ b ∷ ((ended lists ++ tokens list) ++ end ∷ rest)) k slot.End) (let y : i ≡ suc (suc (length (ended lists ++ tokens list))) = omega arith in y)
         ∙ ap (λ l. a ∷ b ∷ l) (set_mid (ended lists ++ tokens list) end slot.End rest
-          ∙ sym (append_assoc (ended lists ++ tokens list) (slot.End ∷ []) rest) ∙ ap (λ l. l ++ rest) (append_assoc (ended lists) (tokens list) (slot.End ∷ []) ∙ sym (ended_more lists list))),
-       parting_ends names n inside lists list commas depth (subst (λ l. IsParting names n l lists list commas depth) (sym (p ∙ append-nil before)) t),
-       All-append (All (IsAmong inside)) lists (list ∷ []) u (All-cons (All (IsAmong inside)) list [] v (All-nil (All (IsAmong inside)))),
-       ap length (ended_more lists list ∙ sym (append_assoc (ended lists) (tokens list) (slot.End ∷ []))) ∙ length-append (ended lists ++ tokens list) (slot.End ∷ [])
-         ∙ (let l = ap length p in let m = length-append before [] in let x : length (ended lists ++ tokens list) + 1 ≡ suc (length inside) = omega (arith, r, l, m) in x))
+        ∙ sym (append_assoc (ended lists ++ tokens list) (slot.End ∷ []) rest) ∙ ap (λ l. l ++ rest) (append_assoc (ended lists) (tokens list) (slot.End ∷ []) ∙ sym (ended_more lists list))),
+    parting_ends names n inside lists list commas depth (subst (λ l. IsParting names n l lists list commas depth) (sym (p ∙ append-nil before)) t),
+    All-append (All (IsAmong inside)) lists (list ∷ []) u (All-cons (All (IsAmong inside)) list [] v (All-nil (All (IsAmong inside)))),
+    ap length (ended_more lists list ∙ sym (append_assoc (ended lists) (tokens list) (slot.End ∷ []))) ∙ length-append (ended lists ++ tokens list) (slot.End ∷ [])
+        ∙ (let l = ap length p in let m = length-append before [] in let x : length (ended lists ++ tokens list) + 1 ≡ suc (length inside) = omega (arith, r, l, m) in x),
+  )
 
   -- the place is one of the slots
   pub here_within : i ≤ close → Here → i < length slots

@@ -1,7 +1,6 @@
 -- What is put in for a name, where the work allows it.
-use Rattle.std.proofs.Common.{◌≡◌, ℕ, suc, ◌+◌, ◌-◌, ◌<◌, ◌≤◌, Bool, true, false, cond, List, [], ◌∷◌, ◌++◌, length, map, refl, sym, ap, ◌∙◌, arith, append-nil, inl}
-use Rattle.std.specs.Prelude.{nat_lt, vec_len, Vec}
-use Rattle.std.proofs.Common.{Global}
+use Rattle.std.proofs.Common.{◌≡◌, ℕ, suc, ◌+◌, ◌-◌, ◌<◌, ◌≤◌, true, false, cond, List, [], ◌∷◌, ◌++◌, length, refl, sym, ap, ◌∙◌, arith, append-nil, inl}
+use Rattle.std.specs.Prelude.{nat_lt}
 use Rattle.std.proofs.lemmas.Bool.Decides.{nat_tests}
 use Rattle.cr_macros.specs.declared.macros.Seen.{Seen}
 use Rattle.cr_macros.specs.declared.fault.ExpandFault.TheVariants as fault
@@ -36,7 +35,8 @@ module _ (w : Watch) (s0 s1 : List Seen) (value : List Token) (left : ℕ) where
   gives (Gave a l events) h k = (
     events ++ Rule ∷ [],
     ap (λ x. after events (put_in x l)) h.0 ∙ ap (λ x. after events (put_in value x)) h.1 ∙ ap (after events) (paid (1 + length value) k),
-    with_rule events h.2)
+    with_rule events h.2,
+  )
   gives (Stopped cause) h k = absurd h
 
   pub faults_over : (r : Answer (List Token)) → Tells w s0 s1 r value left → left < 1 + length value → Faults (then_do r (λ ts. put_in ts)) fault.LimitMacros

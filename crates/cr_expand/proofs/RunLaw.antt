@@ -1,7 +1,6 @@
 -- However a list is fed, a machine gives its expansion.
-use Rattle.std.proofs.Common.{◌≡◌, ℕ, ◌-◌, Bool, true, false, List, [], ◌∷◌, ◌++◌, map, refl, sym, ap, subst, ◌∙◌, append_assoc, append-nil}
+use Rattle.std.proofs.Common.{◌≡◌, ◌-◌, true, false, List, [], ◌∷◌, ◌++◌, map, refl, sym, ap, subst, ◌∙◌, append_assoc, append-nil}
 use Rattle.std.proofs.lemmas.List.{map-append}
-use Rattle.cr_base.specs.declared.token.Name.{Name}
 use Rattle.cr_base.specs.declared.token.PpTok.{PpTok}
 use Rattle.cr_expand.specs.declared.expander.Expander.{Expander}
 use Rattle.cr_expand.specs.declared.machine.ExpStep.TheVariants as step
@@ -14,7 +13,7 @@ use Rattle.cr_expand.specs.HideSets.{Grows}
 use Rattle.cr_expand.specs.Held.{IsNamed, watch_of, noted}
 use Rattle.cr_expand.specs.Running.{leads}
 use Rattle.cr_expand.specs.Machines.{IsUse}
-use Rattle.cr_expand.specs.Expanders.{left_over, IsFresh, IsFed, Steps, plain, Run, Begins, Fed, Gives, Goes, Finishes, GivesTheExpansion}
+use Rattle.cr_expand.specs.Expanders.{left_over, IsFed, Steps, plain, Run, Begins, Fed, Gives, Goes, Finishes, GivesTheExpansion}
 use Rattle.cr_expand.proofs.Kept.{watch_kept}
 use Rattle.cr_expand.proofs.Noted.{noted_append}
 use Rattle.cr_expand.proofs.Sets.{grows_same, grows_then}
@@ -52,9 +51,9 @@ module _ (macros : Macros) (names : List Text) (first : Expander) (watched : IsN
         out_is = map-append plain f.shown one ∙ ap (λ l. l ++ map plain one) f.out_is ∙ ap (λ l. out ++ l) p;
         gives = f.gives ∙ ap (leads f.shown f.events) u.goes ∙ leads_leads f.shown one f.events u.events (left_over new macros now more);
         seen = u.seen ∙ ap (λ l. l ++ noted (watch_of at e.machine.notes) u.events) f.seen
-          ∙ ap (λ w. first.machine.notes.seen.items ++ noted (watch_of names first.machine.notes) f.events ++ noted w u.events) (watch_kept names at first.machine.notes e.machine.notes r.grows watched r.from r.to)
-          ∙ append_assoc first.machine.notes.seen.items (noted (watch_of names first.machine.notes) f.events) (noted (watch_of names first.machine.notes) u.events)
-          ∙ ap (λ l. first.machine.notes.seen.items ++ l) (sym (noted_append (watch_of names first.machine.notes) f.events u.events));
+            ∙ ap (λ w. first.machine.notes.seen.items ++ noted (watch_of names first.machine.notes) f.events ++ noted w u.events) (watch_kept names at first.machine.notes e.machine.notes r.grows watched r.from r.to)
+            ∙ append_assoc first.machine.notes.seen.items (noted (watch_of names first.machine.notes) f.events) (noted (watch_of names first.machine.notes) u.events)
+            ∙ ap (λ l. first.machine.notes.seen.items ++ l) (sym (noted_append (watch_of names first.machine.notes) f.events u.events));
       }
 
   begun : IsReached names first [] []
@@ -71,14 +70,14 @@ module _ (macros : Macros) (names : List Text) (first : Expander) (watched : IsN
     from = k.same.0 ∙ r.from;
     to = k.same.1 ∙ r.to;
     follows = λ more q.
-      let f = r.follows (tokens_of at tokens ++ more) (λ t. absurd (let z : ⊥ = cc in z)) in
-      record {
-        shown = f.shown;
-        events = f.events;
-        out_is = f.out_is;
-        gives = ap (left_over names macros first) (append_assoc fed (tokens_of at tokens) more) ∙ f.gives ∙ ap (leads f.shown f.events) (sym (k.gives at macros more));
-        seen = k.seen ∙ f.seen;
-      };
+        let f = r.follows (tokens_of at tokens ++ more) (λ t. absurd (let z : ⊥ = cc in z)) in
+        record {
+          shown = f.shown;
+          events = f.events;
+          out_is = f.out_is;
+          gives = ap (left_over names macros first) (append_assoc fed (tokens_of at tokens) more) ∙ f.gives ∙ ap (leads f.shown f.events) (sym (k.gives at macros more));
+          seen = k.seen ∙ f.seen;
+        };
   }
 
   gave : (at new : List Text) (e now : Expander) (fed out : List Token) (t : PpTok) → IsReached at e fed out → Steps at new macros e now (step.Out t) → IsReached new now fed (out ++ tokens_of new (t ∷ []))
@@ -87,9 +86,9 @@ module _ (macros : Macros) (names : List Text) (first : Expander) (watched : IsN
     from = s.2.0 ∙ r.from;
     to = s.2.1 ∙ r.to;
     follows = λ more q.
-      let p : e.machine.finished ≡ true → more ≡ [] = λ f. q (s.2.3 ∙ f) in
-      let u = s.0 more p in
-      used at new e now fed out more (token_of new u.0 t ∷ []) (tokens_of new (t ∷ [])) r p u.1 refl;
+        let p : e.machine.finished ≡ true → more ≡ [] = λ f. q (s.2.3 ∙ f) in
+        let u = s.0 more p in
+        used at new e now fed out more (token_of new u.0 t ∷ []) (tokens_of new (t ∷ [])) r p u.1 refl;
   }
 
   went : (at new : List Text) (e now : Expander) (fed out : List Token) → IsReached at e fed out → Steps at new macros e now step.More → IsReached new now fed out
@@ -98,8 +97,8 @@ module _ (macros : Macros) (names : List Text) (first : Expander) (watched : IsN
     from = s.2.0 ∙ r.from;
     to = s.2.1 ∙ r.to;
     follows = λ more q.
-      let p : e.machine.finished ≡ true → more ≡ [] = λ f. q (s.2.3 ∙ f) in
-      subst (λ o. Follows new now fed o more) (append-nil out) (used at new e now fed out more [] [] r p (s.0 more p) refl);
+        let p : e.machine.finished ≡ true → more ≡ [] = λ f. q (s.2.3 ∙ f) in
+        subst (λ o. Follows new now fed o more) (append-nil out) (used at new e now fed out more [] [] r p (s.0 more p) refl);
   }
 
   finished : (at : List Text) (e now : Expander) (fed out : List Token) → IsReached at e fed out → now ≡ record e { machine = record e.machine { finished = true } } → IsReached at now fed out
@@ -108,8 +107,8 @@ module _ (macros : Macros) (names : List Text) (first : Expander) (watched : IsN
     from = r.from;
     to = r.to;
     follows = λ more q.
-      let f = r.follows more (λ _. q refl) in
-      record { shown = f.shown; events = f.events; out_is = f.out_is; gives = f.gives; seen = f.seen };
+        let f = r.follows more (λ _. q refl) in
+        record { shown = f.shown; events = f.events; out_is = f.out_is; gives = f.gives; seen = f.seen };
   })
 
   reached : {at : List Text} {e : Expander} {fed out : List Token} → Run macros names first at e fed out → IsReached at e fed out
@@ -124,9 +123,11 @@ gives_the_expansion macros names at new old_name new_name file work first e now 
     let watched : IsNamed names first.machine.notes.from × IsNamed names first.machine.notes.to = (subst (IsNamed names) (sym fresh.watched.0) a, subst (IsNamed names) (sym fresh.watched.1) b) in
     let r = reached macros names first watched run in
     let f = r.follows [] (λ _. refl) in
-    let z = s.0 [] (λ _. refl) in
-    (f.shown, f.events,
+    let z = s.0 [] (λ _. refl) in (
+      f.shown,
+      f.events,
       ap (λ ts. expand (table_of names macros (text_of names file)) ts (LIMIT - work)) (sym (append-nil fed)) ∙ sym (fresh.gives names macros (fed ++ [])) ∙ f.gives ∙ ap (leads f.shown f.events) z.2
-        ∙ ap (λ l. Gave l (LIMIT - e.machine.used) (f.events ++ [])) (append-nil f.shown) ∙ ap (Gave f.shown (LIMIT - e.machine.used)) (append-nil f.events),
+          ∙ ap (λ l. Gave l (LIMIT - e.machine.used) (f.events ++ [])) (append-nil f.shown) ∙ ap (Gave f.shown (LIMIT - e.machine.used)) (append-nil f.events),
       f.out_is,
-      f.seen ∙ ap (λ l. l ++ noted (watch_of names first.machine.notes) f.events) fresh.seen)
+      f.seen ∙ ap (λ l. l ++ noted (watch_of names first.machine.notes) f.events) fresh.seen,
+    )

@@ -1,11 +1,10 @@
 -- Steps of the machine, by the use of the head.
-use Rattle.std.proofs.Common.{◌≡◌, ℕ, suc, ◌+◌, ◌-◌, ◌<◌, ◌≤◌, Bool, List, [], ◌∷◌, ◌++◌, length, map, drop, reverse, refl, sym, ap, subst, ◌∙◌, arith, append_assoc, append-nil, Option, Some, None}
+use Rattle.std.proofs.Common.{◌≡◌, ℕ, ◌-◌, List, [], ◌∷◌, ◌++◌, map, drop, reverse, refl, sym, ap, subst, ◌∙◌, arith, append-nil}
 use Rattle.std.specs.List.{All}
 use Rattle.std.proofs.lemmas.List.{map-append, reverse-append}
-use Rattle.std.proofs.lemmas.List.Elements.{All-head, All-tail, All-weaker, All-nil, All-cons, All-append}
+use Rattle.std.proofs.lemmas.List.Elements.{All-head, All-tail, All-weaker, All-nil, All-cons}
 use Rattle.cr_base.specs.declared.token.PpKind.{PpKind}
 use Rattle.cr_base.specs.declared.cause.Role.TheVariants.{MacroName}
-use Rattle.cr_macros.specs.declared.macros.Macro.{Macro}
 use Rattle.cr_macros.specs.declared.macros.Seen.{Seen}
 use Rattle.cr_expand.specs.declared.held.Held.{Held}
 use Rattle.cr_expand.specs.declared.slot.Slot.{Slot}
@@ -14,21 +13,21 @@ use Rattle.cr_expand.specs.declared.machine.Machine.{Machine}
 use Rattle.cr_expand.specs.declared.machine.ExpStep.{ExpStep}
 use Rattle.cr_expand.specs.declared.machine.ExpStep.TheVariants as step
 use Rattle.cr_expand.specs.declared.machine.TheConstants.{LIMIT}
-use Rattle.cr_macros.specs.Tokens.{Text, Token, token_of, Event, Rule, takes, with_name}
+use Rattle.cr_macros.specs.Tokens.{Text, Token, token_of, Event, Rule, takes}
 use Rattle.cr_macros.specs.Substitution.{made}
 use Rattle.cr_macros.specs.Definition.{text_of}
-use Rattle.cr_macros.specs.Expansion.{Table, Use, Keep, Predefined, Object, use_of}
+use Rattle.cr_macros.specs.Expansion.{Table, Keep, Predefined, use_of}
 use Rattle.cr_macros.specs.Laws.{FollowsTheRules}
-use Rattle.cr_macros.specs.MacroTables.{Macros, macro_text, table_of}
+use Rattle.cr_macros.specs.MacroTables.{Macros, table_of}
 use Rattle.cr_expand.specs.HideSets.{Sets, Grows}
-use Rattle.cr_expand.specs.Held.{held, all_held, hidden, noted, watch_of, IsKnown, AreKnown}
+use Rattle.cr_expand.specs.Held.{held, all_held, hidden, noted, watch_of}
 use Rattle.cr_expand.specs.Frames.{Call}
-use Rattle.cr_expand.specs.Running.{Waiting, Piece, Stands, Ends, current, before, goes_on, leads, put_for}
+use Rattle.cr_expand.specs.Running.{Waiting, Piece, Stands, current, before, goes_on, leads}
 use Rattle.cr_expand.specs.Slots.{piece, pieces, tokens, IsSlotKnown, AreSlotsKnown}
-use Rattle.cr_expand.specs.Machines.{waiting_of, waiting, still, IsCallHeld, IsCallKnown, IsMachine, AreMacros, IsGiven, IsSameElsewhere, IsUse, IsStep, IsPredefinedUse, IsPut}
+use Rattle.cr_expand.specs.Machines.{waiting_of, waiting, still, IsCallHeld, IsCallKnown, IsMachine, AreMacros, IsGiven, IsStep, IsPredefinedUse}
 use Rattle.cr_expand.proofs.Noted.{noted_append}
 use Rattle.cr_expand.proofs.Sets.{grows_same}
-use Rattle.cr_expand.proofs.Going.{with_out, predefined_events, outer_keeps, inner_keeps, outer_predefined, inner_predefined, goes_object, leads_none, then_same}
+use Rattle.cr_expand.proofs.Going.{with_out, predefined_events, outer_keeps, inner_keeps, outer_predefined, inner_predefined}
 use Rattle.cr_expand.proofs.KeptMachine.{table_kept, all_waiting_kept, waiting_of_kept, pieces_kept}
 
 pub all_front : {A : Type 0} (P : A → Type 0) (xs : List A) (x : A) → All P (xs ++ x ∷ []) → All P xs
@@ -107,8 +106,8 @@ module _ (names new : List Text) (macros : Macros) (old now : Machine) (more : L
       let all : All (IsCallHeld names macros old.sets) (cs ++ c ∷ []) = subst (All (IsCallHeld names macros old.sets)) e calls_held in
       ap (waiting new macros now.sets) f ∙ waiting_more new macros now.sets cs (record c { out = c.out ++ h ∷ [] })
       ∙ ap (λ w. w ∷ waiting new macros now.sets cs) (waiting_out new macros now.sets c h
-        ∙ ap (with_out (waiting_of new macros now.sets c)) a
-        ∙ ap (λ w. with_out w t) (waiting_of_kept names new g macros old.sets now.sets k mach.tables.named known c (all_last (IsCallHeld names macros old.sets) cs c all)))
+      ∙ ap (with_out (waiting_of new macros now.sets c)) a
+      ∙ ap (λ w. with_out w t) (waiting_of_kept names new g macros old.sets now.sets k mach.tables.named known c (all_last (IsCallHeld names macros old.sets) cs c all)))
       ∙ ap (λ ws. with_out (waiting_of names macros old.sets c) t ∷ ws) (waiting_kept cs (all_front (IsCallHeld names macros old.sets) cs c all))
 
   pub calls_old : (cs : List Call) (c : Call) → old.frames.items ≡ cs ++ c ∷ [] → waiting names macros old.sets old.frames.items ≡ waiting_of names macros old.sets c ∷ waiting names macros old.sets cs
@@ -118,19 +117,22 @@ module _ (names new : List Text) (macros : Macros) (old now : Machine) (more : L
   pub keeps : (law : FollowsTheRules) (h : Held) (rest : List Slot) (s : ExpStep) (t : Token) → old.slots.items ≡ slot.Token h ∷ rest → use_of table_of_old (held names old.sets h) (current (front names old.sets rest more)) ≡ Keep
       → now.slots.items ≡ drop 1 old.slots.items → LIMIT - now.used ≡ LIMIT - old.used → now.notes.seen.items ≡ old.notes.seen.items → held new now.sets h ≡ held names old.sets h
       → IsGiven old.frames.items h now.frames.items s → IsStep names new macros old now more s
-  keeps law h rest (step.Out t) x e u d l n a i = (hidden new now.sets h.hide.0, record {
-    events = Rule ∷ [];
-    goes = still_old [] (Stands (held names old.sets h) ∷ front names old.sets rest more) (ap (waiting names macros old.sets) i.0) (front_old (slot.Token h) rest e)
-      ∙ outer_keeps table_of_old law (held names old.sets h) (front names old.sets rest more) (LIMIT - old.used) u
-      ∙ ap (λ y. leads (y ∷ []) (Rule ∷ []) (goes_on table_of_old [] (front names old.sets rest more) (LIMIT - old.used))) (sym a ∙ ap (token_of new (hidden new now.sets h.hide.0)) (sym i.2))
-      ∙ ap (leads (token_of new (hidden new now.sets h.hide.0) t ∷ []) (Rule ∷ [])) (sym (still_now [] (front names old.sets rest more) (LIMIT - old.used) (ap (waiting new macros now.sets) i.1) (front_now (slot.Token h) rest e d) l));
-    seen = with_rule names old old.notes.seen.items now.notes.seen.items [] (n ∙ sym (append-nil old.notes.seen.items));
-  })
+  keeps law h rest (step.Out t) x e u d l n a i = (
+    hidden new now.sets h.hide.0,
+    record {
+      events = Rule ∷ [];
+      goes = still_old [] (Stands (held names old.sets h) ∷ front names old.sets rest more) (ap (waiting names macros old.sets) i.0) (front_old (slot.Token h) rest e)
+          ∙ outer_keeps table_of_old law (held names old.sets h) (front names old.sets rest more) (LIMIT - old.used) u
+          ∙ ap (λ y. leads (y ∷ []) (Rule ∷ []) (goes_on table_of_old [] (front names old.sets rest more) (LIMIT - old.used))) (sym a ∙ ap (token_of new (hidden new now.sets h.hide.0)) (sym i.2))
+          ∙ ap (leads (token_of new (hidden new now.sets h.hide.0) t ∷ []) (Rule ∷ [])) (sym (still_now [] (front names old.sets rest more) (LIMIT - old.used) (ap (waiting new macros now.sets) i.1) (front_now (slot.Token h) rest e d) l));
+      seen = with_rule names old old.notes.seen.items now.notes.seen.items [] (n ∙ sym (append-nil old.notes.seen.items));
+    },
+  )
   keeps law h rest step.More x e u d l n a (cs, c, f, f2) = record {
     events = Rule ∷ [];
     goes = still_old (waiting_of names macros old.sets c ∷ waiting names macros old.sets cs) (Stands (held names old.sets h) ∷ front names old.sets rest more) (calls_old cs c f) (front_old (slot.Token h) rest e)
-      ∙ inner_keeps table_of_old law (waiting names macros old.sets cs) (waiting_of names macros old.sets c) (held names old.sets h) (front names old.sets rest more) (LIMIT - old.used) u
-      ∙ ap (leads [] (Rule ∷ [])) (sym (still_now (with_out (waiting_of names macros old.sets c) (held names old.sets h) ∷ waiting names macros old.sets cs) (front names old.sets rest more) (LIMIT - old.used)
+        ∙ inner_keeps table_of_old law (waiting names macros old.sets cs) (waiting_of names macros old.sets c) (held names old.sets h) (front names old.sets rest more) (LIMIT - old.used) u
+        ∙ ap (leads [] (Rule ∷ [])) (sym (still_now (with_out (waiting_of names macros old.sets c) (held names old.sets h) ∷ waiting names macros old.sets cs) (front names old.sets rest more) (LIMIT - old.used)
         (out_now cs c h (held names old.sets h) f f2 a) (front_now (slot.Token h) rest e d) l));
     seen = with_rule names old old.notes.seen.items now.notes.seen.items [] (n ∙ sym (append-nil old.notes.seen.items));
   }
@@ -141,25 +143,28 @@ module _ (names new : List Text) (macros : Macros) (old now : Machine) (more : L
   pub predefines : (law : FollowsTheRules) (h : Held) (kind : PpKind) (text : Text) (rest : List Slot) (s : ExpStep) → old.slots.items ≡ slot.Token h ∷ rest
       → use_of table_of_old (held names old.sets h) (current (front names old.sets rest more)) ≡ Predefined kind text
       → now.slots.items ≡ drop 1 old.slots.items → now.sets ≡ old.sets → IsPredefinedUse names new old now h (kind, text) s → IsStep names new macros old now more s
-  predefines law h kind text rest (step.Out t) e u d b p = (hidden new now.sets p.one.hide.0, record {
-    events = predefined_events (held names old.sets h);
-    goes = still_old [] (Stands (held names old.sets h) ∷ front names old.sets rest more) (ap (waiting names macros old.sets) p.gives.0) (front_old (slot.Token h) rest e)
-      ∙ outer_predefined table_of_old law (held names old.sets h) kind text (front names old.sets rest more) (LIMIT - old.used) u (omega (arith, p.used, p.limit))
-      ∙ ap (λ y. leads (y ∷ []) (predefined_events (held names old.sets h)) (goes_on table_of_old [] (front names old.sets rest more) (LIMIT - old.used - 2)))
-        (sym (ap (λ z. held new z p.one) b ∙ p.made) ∙ ap (token_of new (hidden new now.sets p.one.hide.0)) (sym p.gives.2))
-      ∙ ap (leads (token_of new (hidden new now.sets p.one.hide.0) t ∷ []) (predefined_events (held names old.sets h)))
-        (sym (still_now [] (front names old.sets rest more) (LIMIT - old.used - 2) (ap (waiting new macros now.sets) p.gives.1) (front_now (slot.Token h) rest e d) (omega (arith, p.used))));
-    seen = with_rule names old old.notes.seen.items now.notes.seen.items (takes MacroName (held names old.sets h)) p.seen;
-  })
+  predefines law h kind text rest (step.Out t) e u d b p = (
+    hidden new now.sets p.one.hide.0,
+    record {
+      events = predefined_events (held names old.sets h);
+      goes = still_old [] (Stands (held names old.sets h) ∷ front names old.sets rest more) (ap (waiting names macros old.sets) p.gives.0) (front_old (slot.Token h) rest e)
+          ∙ outer_predefined table_of_old law (held names old.sets h) kind text (front names old.sets rest more) (LIMIT - old.used) u (omega (arith, p.used, p.limit))
+          ∙ ap (λ y. leads (y ∷ []) (predefined_events (held names old.sets h)) (goes_on table_of_old [] (front names old.sets rest more) (LIMIT - old.used - 2)))
+          (sym (ap (λ z. held new z p.one) b ∙ p.made) ∙ ap (token_of new (hidden new now.sets p.one.hide.0)) (sym p.gives.2))
+          ∙ ap (leads (token_of new (hidden new now.sets p.one.hide.0) t ∷ []) (predefined_events (held names old.sets h)))
+          (sym (still_now [] (front names old.sets rest more) (LIMIT - old.used - 2) (ap (waiting new macros now.sets) p.gives.1) (front_now (slot.Token h) rest e d) (omega (arith, p.used))));
+      seen = with_rule names old old.notes.seen.items now.notes.seen.items (takes MacroName (held names old.sets h)) p.seen;
+    },
+  )
   predefines law h kind text rest step.More e u d b p = by p.gives where
     by : IsGiven old.frames.items p.one now.frames.items step.More → IsStep names new macros old now more step.More
     by (cs, c, f, f2) = record {
       events = predefined_events (held names old.sets h);
       goes = still_old (waiting_of names macros old.sets c ∷ waiting names macros old.sets cs) (Stands (held names old.sets h) ∷ front names old.sets rest more) (calls_old cs c f) (front_old (slot.Token h) rest e)
-        ∙ inner_predefined table_of_old law (waiting names macros old.sets cs) (waiting_of names macros old.sets c) (held names old.sets h) kind text (front names old.sets rest more) (LIMIT - old.used) u (omega (arith, p.used, p.limit))
-        ∙ ap (leads [] (predefined_events (held names old.sets h)))
+          ∙ inner_predefined table_of_old law (waiting names macros old.sets cs) (waiting_of names macros old.sets c) (held names old.sets h) kind text (front names old.sets rest more) (LIMIT - old.used) u (omega (arith, p.used, p.limit))
+          ∙ ap (leads [] (predefined_events (held names old.sets h)))
           (sym (still_now (with_out (waiting_of names macros old.sets c) (made (held names old.sets h) kind text h.token.space []) ∷ waiting names macros old.sets cs) (front names old.sets rest more) (LIMIT - old.used - 2)
-            (out_now cs c p.one (made (held names old.sets h) kind text h.token.space []) f f2 (ap (λ z. held new z p.one) b ∙ p.made)) (front_now (slot.Token h) rest e d) (omega (arith, p.used))));
+          (out_now cs c p.one (made (held names old.sets h) kind text h.token.space []) f f2 (ap (λ z. held new z p.one) b ∙ p.made)) (front_now (slot.Token h) rest e d) (omega (arith, p.used))));
       seen = with_rule names old old.notes.seen.items now.notes.seen.items (takes MacroName (held names old.sets h)) p.seen;
     }
   predefines law h kind text rest step.Hungry e u d b p = absurd p.gives

@@ -1,7 +1,6 @@
 -- A turn of the machine, case by case.
-use Rattle.std.proofs.Common.{◌≡◌, ℕ, suc, ◌+◌, ◌-◌, ◌<◌, ◌≤◌, Bool, true, false, List, [], ◌∷◌, ◌++◌, length, drop, refl, sym, ap, subst, ◌∙◌, arith, length-append, Option, Some, None, inl, inr}
+use Rattle.std.proofs.Common.{◌≡◌, ℕ, suc, ◌+◌, ◌<◌, ◌≤◌, Bool, true, false, List, [], ◌∷◌, ◌++◌, length, refl, sym, ap, subst, arith, length-append, Option, Some, None, inl, inr}
 use Rattle.std.specs.Prelude.{slice_index_or}
-use Rattle.std.specs.List.{All}
 use Rattle.std.proofs.lemmas.List.Elements.{All-head}
 use Rattle.cr_macros.specs.declared.macros.Macro.{Macro}
 use Rattle.cr_macros.specs.declared.fault.ExpandFault.{ExpandFault}
@@ -18,8 +17,7 @@ use Rattle.cr_macros.specs.Expansion.{Use, use_of}
 use Rattle.cr_macros.specs.Laws.{FollowsTheRules}
 use Rattle.cr_macros.specs.MacroTables.{Macros, macro_named, macro_text, table_of}
 use Rattle.cr_expand.specs.HideSets.{Sets, Grows}
-use Rattle.cr_expand.specs.Held.{held, AreTables, IsKnown, AreKnown, Faults}
-use Rattle.cr_expand.specs.Frames.{Call}
+use Rattle.cr_expand.specs.Held.{held, AreTables, IsKnown, Faults}
 use Rattle.cr_expand.specs.Slots.{tokens, ended, begun, from_end, IsSlotKnown, AreSlotsKnown}
 use Rattle.cr_expand.specs.Turns.{IsCallUse}
 use Rattle.cr_expand.specs.Wanted.{is_wanted}
@@ -66,7 +64,8 @@ module _ (law : FollowsTheRules) (names new : List Text) (macros : Macros) (old 
   pub ended_step : (more : List Token) (o : Option ExpStep) → IsArgumentEnd names new macros old now rest o → IsTurnStep names new macros old now more o
   ended_step more None (cs, c, f, m, n, s, a, b, u, x) = (
     next_argument names new macros old now more mach known (subst (Grows names) (sym x) (grows_same names)) (same_sets old.sets now.sets a) same.2 law cs c rest e f m n s a u x,
-    b)
+    b,
+  )
   ended_step more (Some s) (cs, c, f, m, n, p, q) =
       is_more names new macros old now more s q (completes names new macros old now more mach known p.names_grow p.sets_grow same.2 law cs c rest e f m n p)
 
@@ -84,9 +83,9 @@ module _ (law : FollowsTheRules) (names new : List Text) (macros : Macros) (old 
 
   pub ended_fault : (more : List Token) (x : ExpandFault) → IsArgumentFault names macros old x → Faults (still names macros old more) x
   ended_fault more x f = elim f [
-      inl p ↦ rw p (no_memory (still names macros old more))
+    | inl p ↦ rw p (no_memory (still names macros old more))
     | inr p ↦ complete_faults names names macros old old more mach known (grows_same names) (grows_same old.sets) refl law p.0 p.1 rest x e p.2 p.3 p.4
-    ]
+  ]
 
 length_tokens : (hs : List Held) → length (tokens hs) ≡ length hs
 length_tokens [] = refl

@@ -1,7 +1,6 @@
 -- What comes next, case by case.
-use Rattle.std.proofs.Common.{◌≡◌, ℕ, zero, suc, ◌+◌, ◌<◌, ◌≤◌, Bool, true, false, cond, List, [], ◌∷◌, ◌++◌, length, map, get_or, refl, sym, ap, subst, ◌∙◌, arith, append_assoc, append-nil, length-append, Option, Some, None}
-use Rattle.std.specs.Prelude.{codes, if◌then◌else◌}
-use Rattle.std.proofs.lemmas.List.{map-append}
+use Rattle.std.proofs.Common.{◌≡◌, ℕ, ◌<◌, ◌≤◌, Bool, true, false, cond, List, [], ◌∷◌, ◌++◌, length, map, get_or, refl, sym, ap, subst, ◌∙◌, arith, append-nil, Some}
+use Rattle.std.specs.Prelude.{codes}
 use Rattle.cr_base.specs.declared.token.Name.{Name}
 use Rattle.cr_macros.specs.declared.macros.Macro.{Macro}
 use Rattle.cr_expand.specs.declared.held.Held.{Held}
@@ -10,14 +9,14 @@ use Rattle.cr_expand.specs.declared.slot.Slot.TheVariants as slot
 use Rattle.cr_expand.specs.declared.turn.Turn.{Turn}
 use Rattle.cr_expand.specs.declared.turn.Turn.TheVariants as turn
 use Rattle.cr_expand.specs.declared.closing.Close.TheVariants as close
-use Rattle.cr_macros.specs.Tokens.{Text, Token, MacroText, is_mark, OpenCall}
-use Rattle.cr_macros.specs.Expansion.{Use, Keep, Predefined, Object, Wrong, predefined_token, arguments, counted_call, closed_call, call_of, use_of, to_close}
+use Rattle.cr_macros.specs.Tokens.{Text, Token, is_mark, OpenCall}
+use Rattle.cr_macros.specs.Expansion.{Use, Keep, Wrong, closed_call, call_of, use_of, to_close}
 use Rattle.cr_macros.specs.Definition.{text_of}
-use Rattle.cr_macros.specs.MacroTables.{Macros, macro_named, macro_text, table_of}
+use Rattle.cr_macros.specs.MacroTables.{Macros, macro_text, table_of}
 use Rattle.cr_expand.specs.HideSets.{Sets}
 use Rattle.cr_expand.specs.Held.{held, all_held}
-use Rattle.cr_expand.specs.Running.{Piece, Stands, Ends, current, before, is_open, wants_more}
-use Rattle.cr_expand.specs.Slots.{piece, pieces, tokens}
+use Rattle.cr_expand.specs.Running.{current, before, is_open, wants_more}
+use Rattle.cr_expand.specs.Slots.{tokens}
 use Rattle.cr_expand.specs.Calls.{IsClosed}
 use Rattle.cr_expand.specs.Slots.{ends}
 use Rattle.cr_expand.specs.Turns.{list_of, IsUsed, IsCallUse, IsTurn, IsTurnOf, IsNext, IsWanting}
@@ -64,32 +63,36 @@ module _ (names : List Text) (sets : Sets) (h : Held) (m : Macro) (params : List
         slots_are = e ∙ ap (λ r. slot.Token h ∷ slot.Token opens ∷ r) both.2;
         place = k;
         used = opened (held names sets opens) (list_of names sets (tokens inside ++ slot.Token end ∷ rest2) more) g
-          ∙ ap (λ l. closed_call (held names sets h) (macro_text names m) (map (text_of names) params) (to_close 0 l)) (list_tokens names sets inside (slot.Token end ∷ rest2) more)
-          ∙ ap (closed_call (held names sets h) (macro_text names m) (map (text_of names) params)) (c (list_of names sets rest2 more));
+            ∙ ap (λ l. closed_call (held names sets h) (macro_text names m) (map (text_of names) params) (to_close 0 l)) (list_tokens names sets inside (slot.Token end ∷ rest2) more)
+            ∙ ap (closed_call (held names sets h) (macro_text names m) (map (text_of names) params)) (c (list_of names sets rest2 more));
       }
 
   pub call_missing : (slots rest : List Slot) (opens : Held) (more : List Token) → slots ≡ slot.Token h ∷ slot.Token opens ∷ rest → is_mark (codes "(") (held names sets opens) ≡ true
       → IsClosed names sets slots close.Missing
       → IsUsed names sets slots more by_call h (Wrong (OpenCall h.token.site))
   call_missing slots rest opens more e g (a, b, inside, rest2, s, c) =
-      let both = same_slots (slot.Token opens) a b rest (tokens inside ++ slot.End ∷ rest2) [] (sym e ∙ s) in
-      (slot.Token opens ∷ rest, e,
+      let both = same_slots (slot.Token opens) a b rest (tokens inside ++ slot.End ∷ rest2) [] (sym e ∙ s) in (
+        slot.Token opens ∷ rest,
+        e,
         opened (held names sets opens) (list_of names sets rest more) g
-        ∙ ap (λ r. closed_call (held names sets h) (macro_text names m) (map (text_of names) params) (to_close 0 (list_of names sets r more))) both.2
-        ∙ ap (λ l. closed_call (held names sets h) (macro_text names m) (map (text_of names) params) (to_close 0 l)) (list_ended names sets inside rest2 more)
-        ∙ ap (closed_call (held names sets h) (macro_text names m) (map (text_of names) params)) c)
+            ∙ ap (λ r. closed_call (held names sets h) (macro_text names m) (map (text_of names) params) (to_close 0 (list_of names sets r more))) both.2
+            ∙ ap (λ l. closed_call (held names sets h) (macro_text names m) (map (text_of names) params) (to_close 0 l)) (list_ended names sets inside rest2 more)
+            ∙ ap (closed_call (held names sets h) (macro_text names m) (map (text_of names) params)) c,
+      )
 
   pub call_open : (slots rest : List Slot) (opens : Held) (more : List Token) → slots ≡ slot.Token h ∷ slot.Token opens ∷ rest → is_mark (codes "(") (held names sets opens) ≡ true
       → more ≡ [] → IsClosed names sets slots close.NotYet
       → IsUsed names sets slots more by_call h (Wrong (OpenCall h.token.site))
   call_open slots rest opens more e g n (a, b, inside, s, c) =
-      let both = same_slots (slot.Token opens) a b rest (tokens inside) [] (sym e ∙ s) in
-      (slot.Token opens ∷ rest, e,
+      let both = same_slots (slot.Token opens) a b rest (tokens inside) [] (sym e ∙ s) in (
+        slot.Token opens ∷ rest,
+        e,
         opened (held names sets opens) (list_of names sets rest more) g
-        ∙ ap (λ r. closed_call (held names sets h) (macro_text names m) (map (text_of names) params) (to_close 0 (list_of names sets r more))) both.2
-        ∙ ap (λ l. closed_call (held names sets h) (macro_text names m) (map (text_of names) params) (to_close 0 (list_of names sets (tokens inside) l))) n
-        ∙ ap (λ l. closed_call (held names sets h) (macro_text names m) (map (text_of names) params) (to_close 0 l)) (list_alone names sets inside)
-        ∙ ap (closed_call (held names sets h) (macro_text names m) (map (text_of names) params)) c)
+            ∙ ap (λ r. closed_call (held names sets h) (macro_text names m) (map (text_of names) params) (to_close 0 (list_of names sets r more))) both.2
+            ∙ ap (λ l. closed_call (held names sets h) (macro_text names m) (map (text_of names) params) (to_close 0 (list_of names sets (tokens inside) l))) n
+            ∙ ap (λ l. closed_call (held names sets h) (macro_text names m) (map (text_of names) params) (to_close 0 l)) (list_alone names sets inside)
+            ∙ ap (closed_call (held names sets h) (macro_text names m) (map (text_of names) params)) c,
+      )
 
   -- the name at the end of everything
   pub name_last : (slots rest : List Slot) (more : List Token) → slots ≡ slot.Token h ∷ rest → length slots ≤ 1 → more ≡ [] → IsUsed names sets slots more by_call h Keep
@@ -146,10 +149,10 @@ unfolding call_open
 open_wanting names sets h m params finished slots rest opens e g n k =
     subst (λ s. IsWanting names sets finished s (λ x. call_of (held names sets x) (macro_text names m) (map (text_of names) params)) turn.Hungry) (sym e)
     (n, no_ends k, ap is_open (call_open names sets h m params slots rest opens [] e g refl k).2) where
-  no_ends : IsClosed names sets slots close.NotYet → ends rest ≡ 0
-  no_ends (a, b, inside, s, c) =
-      let both = same_slots names sets h m params (slot.Token opens) a b rest (tokens inside) [] (sym e ∙ s) in
-      ap ends both.2 ∙ ends_tokens inside
+      no_ends : IsClosed names sets slots close.NotYet → ends rest ≡ 0
+      no_ends (a, b, inside, s, c) =
+          let both = same_slots names sets h m params (slot.Token opens) a b rest (tokens inside) [] (sym e ∙ s) in
+          ap ends both.2 ∙ ends_tokens inside
 
 wants_by : (f g : List Token → Use) (t : Token) (l : List Token) → ((rest : List Token) → g rest ≡ f rest) → wants_more f t l ≡ true → wants_more g t l ≡ true
 wants_by f g t [] e k = ap is_open (e _) ∙ k
@@ -160,12 +163,12 @@ pub wanting_by : (names : List Text) (sets : Sets) (finished : Bool) (slots rest
     → IsWanting names sets finished slots f t → IsWanting names sets finished slots g t
 wanting_by names sets finished slots rest h f g t e x k =
     subst (λ s. IsWanting names sets finished s g t) (sym e) (by t (subst (λ s. IsWanting names sets finished s f t) e k)) where
-  by : (t : Turn) → IsWanting names sets finished (slot.Token h ∷ rest) f t → IsWanting names sets finished (slot.Token h ∷ rest) g t
-  by turn.Hungry k = (k.0, k.1, wants_by (f h) (g h) (held names sets h) (list_of names sets rest []) x k.2)
-  by turn.End k = k
-  by turn.ArgumentEnd k = tt
-  by (turn.Stays y) k = tt
-  by (turn.Predefined y p) k = tt
-  by (turn.Object y m) k = tt
-  by (turn.Call y m c n) k = tt
-  by (turn.Unclosed site) k = tt
+      by : (t : Turn) → IsWanting names sets finished (slot.Token h ∷ rest) f t → IsWanting names sets finished (slot.Token h ∷ rest) g t
+      by turn.Hungry k = (k.0, k.1, wants_by (f h) (g h) (held names sets h) (list_of names sets rest []) x k.2)
+      by turn.End k = k
+      by turn.ArgumentEnd k = tt
+      by (turn.Stays y) k = tt
+      by (turn.Predefined y p) k = tt
+      by (turn.Object y m) k = tt
+      by (turn.Call y m c n) k = tt
+      by (turn.Unclosed site) k = tt

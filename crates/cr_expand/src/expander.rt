@@ -7,6 +7,7 @@ ghost use Rattle.cr_expand.specs.Held.{Faults};
 ghost use Rattle.cr_expand.specs.Feeding.{IsPutBack};
 ghost use Rattle.cr_expand.specs.Machines.{AreMacros, IsStep, IsWantedAt, IsSameRun};
 ghost use Rattle.cr_expand.specs.Expanders.{left_over, IsRunning, IsFresh, IsFed, Steps, GivesTheExpansion};
+
 use crate::held::Held;
 use crate::hide_sets::HideSets;
 use crate::machine::{ExpStep, LIMIT, Machine};

@@ -27,10 +27,10 @@ mod subst;
 mod turn;
 mod wanted;
 
+pub use cr_macros::{ExpandFault, Macro, MacroTable, Role, Seen};
 pub use expander::{Expander, expansion_is_however_it_is_fed};
 pub use good_macros::defined_macros_are_known;
 pub use machine::ExpStep;
-pub use cr_macros::{ExpandFault, Macro, MacroTable, Role, Seen};
 
 #[cfg(test)]
 mod tests;

@@ -17,6 +17,7 @@ ghost use Rattle.cr_expand.specs.Slots.{tokens, AreSlotsKnown};
 ghost use Rattle.cr_expand.specs.Calls.{IsCallAt};
 ghost use Rattle.cr_expand.specs.HideSets.{Grows};
 ghost use Rattle.cr_expand.specs.Machines.{IsGiven, IsPut, IsSameRun, IsSameElsewhere, IsPredefinedUse, IsClosedAt, IsEntered, IsCallHeld, IsMachine, IsArgumentEnd, IsArgumentFault, BeginsWithEnd, AreMacros, put_for_call, AreTaken, IsMiscounted, IsTurnStep, IsTurnWanted, IsStep, IsWantedAt, still};
+
 use crate::frame::Frame;
 use crate::held::Held;
 use crate::hide_sets::{HideSet, HideSets};
@@ -175,12 +176,7 @@ impl Machine {
     }
 
     // The name of an object-like macro.
-    fn object(
-        &mut self,
-        names: &mut NameTable,
-        h: Held,
-        m: &Macro,
-    ) -> Result<ExpStep, ExpandFault>
+    fn object(&mut self, names: &mut NameTable, h: Held, m: &Macro) -> Result<ExpStep, ExpandFault>
         requires room { length names.old + 2 * length m.now.body < 2 ^ 32 - 1 }
         requires tables { AreTables names.old self.old.sets }
         requires name { IsKnown names.old self.old.sets h }
@@ -273,7 +269,14 @@ impl Machine {
         match macros.lookup(frame.name().token.text) {
             None => unreachable!(),
             Some(m) => {
-                self.put(names, frame.name(), m, frame.raw(), frame.done(), frame.hide())?;
+                self.put(
+                    names,
+                    frame.name(),
+                    m,
+                    frame.raw(),
+                    frame.done(),
+                    frame.hide(),
+                )?;
                 Ok(())
             }
         }

@@ -112,7 +112,9 @@ pub fn part(
     }
     end_if(slots, close, true);
     let Parting {
-        mut lists, list, ..
+        mut lists,
+        list,
+        ..
     } = parting;
     lists.push(list)?;
     Ok(lists)

@@ -15,11 +15,7 @@ use cr_macros::Predefined;
 use itoa::Buffer;
 
 // A kind with the name of a text.
-fn literal(
-    names: &mut NameTable,
-    kind: PpKind,
-    text: &[u8],
-) -> Result<(PpKind, Name), OutOfMemory>
+fn literal(names: &mut NameTable, kind: PpKind, text: &[u8]) -> Result<(PpKind, Name), OutOfMemory>
     requires { length names.old < 2 ^ 32 - 1 }
     ensures { IfOk result (λ given. IsGivenText names.old names.new (kind, text.now) given) }
 {

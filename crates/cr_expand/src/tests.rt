@@ -33,7 +33,11 @@ fn token_of(names: &mut NameTable, offset: u32, word: &[u8]) -> Result<PpTok, Ou
     ensures named { IfOk result (λ t. IsTokenNamed names.new t) }
 {
     let space = !word.starts_with(b"~");
-    let spelling = if space || word.is_empty() { word } else { &word[1..] };
+    let spelling = if space || word.is_empty() {
+        word
+    } else {
+        &word[1..]
+    };
     let place = Place {
         path: PathNo(0),
         offset,
@@ -358,7 +362,8 @@ fn more_is_wanted_before_the_end(rt: HostRuntime) -> Result<(), Fail> {
 }
 
 // Calls inside one another, each of which gives its argument twice.
-const FIFTEEN: &[u8] = b"D ( D ( D ( D ( D ( D ( D ( D ( D ( D ( D ( D ( D ( D ( D ( 1 ) ) ) ) ) ) ) ) ) ) ) ) ) ) )";
+const FIFTEEN: &[u8] =
+    b"D ( D ( D ( D ( D ( D ( D ( D ( D ( D ( D ( D ( D ( D ( D ( 1 ) ) ) ) ) ) ) ) ) ) ) ) ) ) )";
 
 #[test]
 fn work_has_its_limit(rt: HostRuntime) -> Result<(), Fail> {

@@ -143,13 +143,7 @@ pub fn turn_of<'a>(
     ensures means { (file : Text) (more : List Token) → (finished ≡ true → more ≡ []) → IsNext names.now sets.now macros.now file slots.now.items more result }
 {
     match slots.front() {
-        None => {
-            if finished {
-                Turn::End
-            } else {
-                Turn::Hungry
-            }
-        }
+        None => { if finished { Turn::End } else { Turn::Hungry } }
         Some(Slot::End) => Turn::ArgumentEnd,
         Some(Slot::Token(h)) => token_turn(names, macros, sets, slots, finished, *h),
     }

@@ -27,11 +27,7 @@ fn expanded_argument_of(item: Item) -> Option<usize>
 }
 
 // Which arguments have an item that takes them expanded.
-fn expanded_arguments(
-    alloc: Global,
-    count: usize,
-    items: &[Item],
-) -> Result<Vec<bool>, OutOfMemory>
+fn expanded_arguments(alloc: Global, count: usize, items: &[Item]) -> Result<Vec<bool>, OutOfMemory>
     ensures { (names : List Text) → IfOk result (λ wanted. (vec_len wanted ≡ count) × ((n : ℕ) → n < count → slice_index_or wanted.items n false ≡ list_any (spec.is_full n) (item_texts names items.now))) }
 {
     let mut wanted = unmarked(alloc, count)?;

@@ -1,8 +1,6 @@
-use Rattle.std.proofs.Common.{◌≡◌, ◌<◌, arith, sym, ap, subst, ◌∙◌, map, ◌++◌, [], ◌∷◌, List, refl, length}
+use Rattle.std.proofs.Common.{◌≡◌, ◌<◌, arith, ap, subst, ◌∙◌, map, [], ◌∷◌, length}
 use Rattle.std.proofs.lemmas.List.{map-append}
-use Rattle.cr_expand.specs.Partings.{lists_of}
-use Rattle.cr_expand.specs.Calls.{ArePartedAt}
-use Rattle.cr_expand.proofs.PartedLists.{parted_first, token_here, within_here, parted_more, parted_ends, call_place}
+use Rattle.cr_expand.proofs.PartedLists.{token_here, within_here, parted_more, parted_ends, call_place}
 use Rattle.cr_expand.proofs.parting.part.Goals as goal
 
 pub token_at-h-requires : goal.token_at-h-requires
@@ -12,7 +10,7 @@ pub loop-i-preserved : goal.loop-i-preserved
 loop-i-preserved c = record {
   small = omega (arith, c.in_ok-parts.ensures.small);
   parted = parted_more c.args.names.now c.args.commas c.args.slots.now.items c.loop-i.slots.items c.end_if.new.slots.items c.args.close c.loop-i.i c.loop-i.parting c.take.new.self c.in_ok-parts.parts c.token_at-h.result
-    c.loop-i-test.true c.token_at-h.ensures c.in_ok-parts.ensures.taken c.end_if.ensures c.loop-i.invariant.parted;
+      c.loop-i-test.true c.token_at-h.ensures c.in_ok-parts.ensures.taken c.end_if.ensures c.loop-i.invariant.parted;
 }
 
 pub end_if-requires-2 : goal.end_if-requires-2

@@ -1,9 +1,8 @@
-use Rattle.std.proofs.Common.{◌≡◌, ℕ, Bool, false, not, drop, refl, sym, ap, ◌∙◌, arith}
+use Rattle.std.proofs.Common.{◌≡◌, ℕ, Bool, false, drop, refl, sym, ap, ◌∙◌, arith}
 use Rattle.std.specs.Prelude.{nat_lt}
 use Rattle.std.proofs.lemmas.Bool.Decides.{nat_tests}
 use Rattle.cr_expand.specs.Machines.{put_for_call}
 use Rattle.cr_expand.proofs.Sets.{grows_same}
-use Rattle.cr_expand.proofs.Nexts.{next_end}
 use Rattle.cr_expand.proofs.Puttings.{put_again}
 use Rattle.cr_expand.proofs.machine.Machine.end_argument.Goals as goal
 
@@ -18,8 +17,9 @@ returns-then-not-has_more-clause-ended c = λ rest e. (
   is_none c.finish_argument.new.self.more c.in-Some.frame.more c.has_more.result c.has_more.ensures c.if-not-has_more.true (ap (λ x. x.more) c.in_ok-finish_argument.ensures),
   c.in_ok-complete.ensures.same.1,
   put_again c.args.names.now c.complete.new.names c.args.self.now _ c.complete.new.self
-    (put_for_call c.args.names.now c.args.macros.now c.args.self.now.sets c.finish_argument.new.self) _ c.pop_front.new.self.items rest refl refl (grows_same c.args.self.now.sets)
-    (ap (put_for_call c.args.names.now c.args.macros.now c.args.self.now.sets) c.in_ok-finish_argument.ensures)
-    (c.pop_front.ensures.rest ∙ ap (drop 1) e)
-    c.in_ok-complete.ensures.put,
-  refl)
+      (put_for_call c.args.names.now c.args.macros.now c.args.self.now.sets c.finish_argument.new.self) _ c.pop_front.new.self.items rest refl refl (grows_same c.args.self.now.sets)
+      (ap (put_for_call c.args.names.now c.args.macros.now c.args.self.now.sets) c.in_ok-finish_argument.ensures)
+      (c.pop_front.ensures.rest ∙ ap (drop 1) e)
+      c.in_ok-complete.ensures.put,
+  refl,
+)

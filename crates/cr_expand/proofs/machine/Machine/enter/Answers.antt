@@ -1,4 +1,4 @@
-use Rattle.std.proofs.Common.{◌≡◌, ◌<◌, ◌++◌, ◌∷◌, List, [], map, drop, refl, sym, ap, subst, ◌∙◌, length}
+use Rattle.std.proofs.Common.{◌<◌, ◌++◌, ◌∷◌, [], map, drop, sym, ap, subst, ◌∙◌, length}
 use Rattle.std.proofs.lemmas.Result.{err_from_is_err_and}
 use Rattle.cr_macros.specs.Tokens.{with_name, both}
 use Rattle.cr_macros.specs.Definition.{text_of}
@@ -25,7 +25,7 @@ returns-clause-entered c = λ a b inside closes rest params e f p q.
     (c.in_ok-raw.ensures.taken a b _ inside rest params e f p q)
     (closes_at c.args.self.now.slots.items a b inside closes rest c.args.close c.token_at-end.result e f c.token_at-end.ensures)
     (subst (λ s. IsHidden c.args.names.now s c.hidden_by_call.new.sets c.in_ok-hide.hide.0 (with_name (text_of c.args.names.now c.args.h.token.text) (both (hidden c.args.names.now s c.args.h.hide.0) (hidden c.args.names.now s c.token_at-end.result.hide.0))))
-      c.in_ok-raw.ensures.same.0.1 c.in_ok-hide.ensures)
+    c.in_ok-raw.ensures.same.0.1 c.in_ok-hide.ensures)
     c.in_ok-expands.ensures
     c.new-frame.ensures
     (c.in_ok-push.ensures.items ∙ ap (λ l. l ++ c.new-frame.result ∷ []) c.in_ok-raw.ensures.same.1)

@@ -1,8 +1,8 @@
-use Rattle.std.proofs.Common.{◌≡◌, ◌-◌, [], refl, ap, sym, subst, ◌∙◌}
+use Rattle.std.proofs.Common.{◌-◌, [], refl, subst}
 use Rattle.std.proofs.lemmas.Result.{err_from_is_err_and}
 use Rattle.cr_expand.specs.declared.machine.TheConstants.{LIMIT}
 use Rattle.cr_macros.specs.MacroTables.{macro_text}
-use Rattle.cr_macros.specs.Tokens.{with_name, Work, Token}
+use Rattle.cr_macros.specs.Tokens.{with_name}
 use Rattle.cr_macros.specs.Definition.{text_of}
 use Rattle.cr_expand.specs.Held.{held, hidden, Faults}
 use Rattle.cr_expand.specs.Running.{put_for}
@@ -18,7 +18,7 @@ returns-in_err-put-clause-faults c =
     rw (p.1, p.2)
     (subst (λ w. Faults (w (LIMIT - c.args.self.now.used)) c.in_err-put.field-0.0)
     (object_work c.args.names.now c.args.self.now.sets c.with_one.new.sets c.args.h (macro_text c.args.names.now c.args.m.now) c.in_ok-hide.hide.0
-      (with_name (text_of c.args.names.now c.args.h.token.text) (hidden c.args.names.now c.args.self.now.sets c.args.h.hide.0)) c.requires.tables c.requires.name c.in_ok-hide.ensures)
+    (with_name (text_of c.args.names.now c.args.h.token.text) (hidden c.args.names.now c.args.self.now.sets c.args.h.hide.0)) c.requires.tables c.requires.name c.in_ok-hide.ensures)
     c.in_err-put.ensures.faults)
 
 pub returns-clause-put : goal.returns-clause-put
@@ -27,6 +27,6 @@ returns-clause-put c =
     (put_for (held c.args.names.now c.with_one.new.sets c.args.h) (macro_text c.args.names.now c.args.m.now) [] [] (hidden c.args.names.now c.with_one.new.sets c.in_ok-hide.hide.0)) _ c.pop_front.new.self.items _ refl refl
     c.in_ok-hide.ensures.grows
     (object_work c.args.names.now c.args.self.now.sets c.with_one.new.sets c.args.h (macro_text c.args.names.now c.args.m.now) c.in_ok-hide.hide.0
-      (with_name (text_of c.args.names.now c.args.h.token.text) (hidden c.args.names.now c.args.self.now.sets c.args.h.hide.0)) c.requires.tables c.requires.name c.in_ok-hide.ensures)
+    (with_name (text_of c.args.names.now c.args.h.token.text) (hidden c.args.names.now c.args.self.now.sets c.args.h.hide.0)) c.requires.tables c.requires.name c.in_ok-hide.ensures)
     c.pop_front.ensures.rest
     c.in_ok-put.ensures.put

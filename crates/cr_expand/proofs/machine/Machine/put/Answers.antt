@@ -1,4 +1,4 @@
-use Rattle.std.proofs.Common.{◌≡◌, ◌<◌, ◌-◌, ◌+◌, ◌++◌, ap, sym, ◌∙◌, length, arith, map}
+use Rattle.std.proofs.Common.{◌-◌, ◌++◌, ap, ◌∙◌, arith, map}
 use Rattle.std.proofs.lemmas.Result.{err_from_is_err_and}
 use Rattle.cr_expand.specs.declared.machine.TheConstants.{LIMIT}
 use Rattle.cr_macros.specs.Substitution as spec
@@ -28,7 +28,7 @@ pub returns-clause-put : goal.returns-clause-put
 returns-clause-put c =
     is_put c.args.names.now c.subst.new.names c.args.self.now _
     (spec.subst (held c.args.names.now c.args.self.now.sets c.args.name) (macro_text c.args.names.now c.args.m.now) (all_args c.args.names.now c.args.self.now.sets (map (λ v. v.items) c.args.raw.now))
-      (all_args c.args.names.now c.args.self.now.sets (map (λ v. v.items) c.args.full.now)) (hidden c.args.names.now c.args.self.now.sets c.args.hide.0))
+    (all_args c.args.names.now c.args.self.now.sets (map (λ v. v.items) c.args.full.now)) (hidden c.args.names.now c.args.self.now.sets c.args.hide.0))
     c.args.self.now.slots.items c.in_ok-list.list.items
     ((c.in_ok-list.ensures.does (hidden c.args.names.now c.args.self.now.sets c.args.name.hide.0)).at (LIMIT - c.args.self.now.used))
     (omega (arith, c.in_ok-self.ensures, c.len.ensures, c.in_ok-list.list.ok))

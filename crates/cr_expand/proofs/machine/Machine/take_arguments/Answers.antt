@@ -1,6 +1,5 @@
-use Rattle.std.proofs.Common.{◌≡◌, ◌≤◌, ◌<◌, ◌+◌, ◌-◌, List, [], suc, length, map, arith, refl, sym, ap, ◌∙◌, inr, Some, None}
+use Rattle.std.proofs.Common.{◌-◌, [], map, arith, refl, sym, ap, ◌∙◌, inr}
 use Rattle.std.specs.Prelude.{option_map}
-use Rattle.cr_expand.specs.declared.held.Held.{Held}
 use Rattle.cr_expand.proofs.PartedLists.{call_place}
 use Rattle.cr_expand.proofs.Counting.{some_lists, taken, miscounted, commas_are, length_map}
 use Rattle.cr_expand.specs.Calls.{IsCallAt}
@@ -21,8 +20,11 @@ pub returns-in-None-clause-faults : goal.returns-in-None-clause-faults
 returns-in-None-clause-faults c = λ a b end inside rest params e f p q.
     let k = c.in_ok-lists.ensures a b end inside rest e f in
     let n = commas_are c.args.m.now.variadic c.most_commas-commas.result c.args.count c.args.close params inside c.most_commas-commas.ensures q f in
-    inr (refl, miscounted c.args.names.now c.args.m.now params a b inside rest c.part.new.slots.items (map (λ v. v.items) c.in_ok-lists.lists.items) c.most_commas-commas.result k n
-      (sym (ap (option_map (λ v. map (λ l. l.items) v.items)) c.in-None.is) ∙ c.in_ok-counted.ensures ∙ ap (λ x. counted x c.args.m.now.variadic (map (λ v. v.items) c.in_ok-lists.lists.items)) q))
+    inr (
+      refl,
+      miscounted c.args.names.now c.args.m.now params a b inside rest c.part.new.slots.items (map (λ v. v.items) c.in_ok-lists.lists.items) c.most_commas-commas.result k n
+          (sym (ap (option_map (λ v. map (λ l. l.items) v.items)) c.in-None.is) ∙ c.in_ok-counted.ensures ∙ ap (λ x. counted x c.args.m.now.variadic (map (λ v. v.items) c.in_ok-lists.lists.items)) q),
+    )
 
 pub returns-in-Some-clause-taken : goal.returns-in-Some-clause-taken
 returns-in-Some-clause-taken c = λ a b end inside rest params e f p q.

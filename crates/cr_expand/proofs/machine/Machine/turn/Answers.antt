@@ -1,15 +1,11 @@
-use Rattle.std.proofs.Common.{◌≡◌, ℕ, suc, ◌+◌, ◌-◌, ◌<◌, ◌≤◌, List, [], ◌∷◌, ◌++◌, length, drop, refl, sym, ap, subst, ◌∙◌, arith, Some, None, inl, inr}
+use Rattle.std.proofs.Common.{◌-◌, ◌≤◌, [], drop, refl, sym, ap, subst, arith}
 use Rattle.std.proofs.lemmas.Result.{err_from_is_err_and}
 use Rattle.cr_expand.specs.declared.machine.TheConstants.{LIMIT}
-use Rattle.cr_expand.specs.declared.machine.ExpStep.TheVariants as step
 use Rattle.cr_expand.specs.declared.slot.Slot.TheVariants as slot
 use Rattle.cr_macros.specs.Definition.{text_of}
-use Rattle.cr_macros.specs.Tokens.{Text}
 use Rattle.cr_macros.specs.Expansion.{predefined_token, use_of}
 use Rattle.cr_expand.specs.Held.{held, AreTables, IsKnown}
 use Rattle.cr_expand.proofs.Kept.{tables_later, sets_named_later}
-use Rattle.cr_expand.specs.Machines.{IsStep, IsPut}
-use Rattle.cr_expand.proofs.Telling.{no_memory}
 use Rattle.cr_expand.proofs.Sets.{grows_same}
 use Rattle.cr_expand.proofs.Looked.{found_known, found_short, keys_known}
 use Rattle.cr_expand.proofs.Nexts.{next_stays, next_predefined, next_object, next_call, next_end, next_unclosed}
@@ -87,7 +83,7 @@ returns-in_err-step-in-Predefined-clause-faults c = λ more q.
     let p = err_from_is_err_and c.from_residual-in_err-step-in-Predefined.result c.from_residual-in_err-step-in-Predefined.ensures.1 in
     let u = next_predefined c.args.names.now c.args.self.now.sets c.args.macros.now (text_of c.args.names.now c.args.self.now.file) more c.args.self.now.slots.items c.in-Predefined.h c.in-Predefined.p (c.in-Predefined.ensures.means (text_of c.args.names.now c.args.self.now.file) more q) in
     rw (p.1, p.2) (predefined_fault c.args.names.now c.args.names.now c.args.macros.now c.args.self.now c.args.self.now more c.requires.machine c.requires.macros (grows_same c.args.names.now) (grows_same c.args.self.now.sets) refl c.expansion_follows_the_rules.ensures c.in-Predefined.h
-      (predefined_token (text_of c.args.names.now c.args.self.now.file) c.in-Predefined.h.token.line c.in-Predefined.p).0 (predefined_token (text_of c.args.names.now c.args.self.now.file) c.in-Predefined.h.token.line c.in-Predefined.p).1 u.0 c.in_err-step-in-Predefined.field-0.0 u.1 u.2 c.in_err-step-in-Predefined.ensures.faults)
+    (predefined_token (text_of c.args.names.now c.args.self.now.file) c.in-Predefined.h.token.line c.in-Predefined.p).0 (predefined_token (text_of c.args.names.now c.args.self.now.file) c.in-Predefined.h.token.line c.in-Predefined.p).1 u.0 c.in_err-step-in-Predefined.field-0.0 u.1 u.2 c.in_err-step-in-Predefined.ensures.faults)
 
 pub returns-in_ok-step-in-Predefined-clause-step : goal.returns-in_ok-step-in-Predefined-clause-step
 returns-in_ok-step-in-Predefined-clause-step c = λ more q.
@@ -105,7 +101,7 @@ returns-in_ok-step-in-Predefined-clause-machine c =
     let g = c.in_ok-step-in-Predefined.ensures.given in
     gives_machine c.args.names.now c.predefined.new.names c.args.macros.now c.args.self.now c.predefined.new.self c.requires.machine c.requires.macros g.grows (same_sets c.args.self.now.sets c.predefined.new.self.sets e.1) e.0
     (subst (AreTables c.predefined.new.names) (sym e.1) (tables_later c.args.names.now c.predefined.new.names c.args.self.now.sets c.args.self.now.sets c.requires.machine.tables g.grows (grows_same c.args.self.now.sets) g.distinct
-      (sets_named_later c.args.names.now c.predefined.new.names c.args.self.now.sets g.grows c.requires.machine.tables.named)))
+    (sets_named_later c.args.names.now c.predefined.new.names c.args.self.now.sets g.grows c.requires.machine.tables.named)))
     c.in-Predefined.h g.one u.0 c.in_ok-step-in-Predefined.step u.1 c.in_ok-step-in-Predefined.ensures.slots g.gives (subst (λ z. IsKnown c.predefined.new.names z g.one) (sym e.1) g.known) g.limit
 
 pub returns-in_err-step-in-Object-clause-faults : goal.returns-in_err-step-in-Object-clause-faults
@@ -160,7 +156,7 @@ returns-in_err-enter-in-Call-clause-faults c = λ more q.
     let p = err_from_is_err_and c.from_residual-in_err-enter-in-Call.result c.from_residual-in_err-enter-in-Call.ensures.1 in
     let u = next_call c.args.names.now c.args.self.now.sets c.args.macros.now (text_of c.args.names.now c.args.self.now.file) more c.args.self.now.slots.items c.in-Call.h c.in-Call.m c.in-Call.count c.in-Call.close (c.in-Call.ensures.means (text_of c.args.names.now c.args.self.now.file) more q) in
     rw (p.1, p.2) (miscounts c.args.names.now c.args.names.now c.args.macros.now c.args.self.now c.args.self.now more c.requires.machine c.requires.macros (grows_same c.args.names.now) (grows_same c.args.self.now.sets) refl c.expansion_follows_the_rules.ensures c.in-Call.h c.in-Call.m.now c.in-Call.count c.in-Call.close u.0 u.1
-      c.in_err-enter-in-Call.field-0.0 (c.in_err-enter-in-Call.ensures.faults (slot.Token c.in-Call.h) (slot.Token u.0.opens) u.0.inside u.0.closes u.0.rest u.0.params u.0.slots_are u.0.place u.0.macro_params u.0.counts))
+    c.in_err-enter-in-Call.field-0.0 (c.in_err-enter-in-Call.ensures.faults (slot.Token c.in-Call.h) (slot.Token u.0.opens) u.0.inside u.0.closes u.0.rest u.0.params u.0.slots_are u.0.place u.0.macro_params u.0.counts))
 
 pub returns-in_ok-enter-in-Call-clause-step : goal.returns-in_ok-enter-in-Call-clause-step
 returns-in_ok-enter-in-Call-clause-step c = λ more q.

@@ -9,9 +9,12 @@ pub returns-in_ok-push-in-None-clause-taken : goal.returns-in_ok-push-in-None-cl
 returns-in_ok-push-in-None-clause-taken c = (
   λ sets. sym (c.in-None.ensures.depth sets),
   ap (map (λ v. v.items)) c.in_ok-push-in-None.ensures.items
-    ∙ map-append (λ v. v.items) c.args.self.now.lists.items (c.replace-list.result ∷ [])
-    ∙ ap (λ l. map (λ v. v.items) c.args.self.now.lists.items ++ l.items ∷ []) c.replace-list.ensures.value,
-  ap (λ v. v.items) c.replace-list.ensures.after ∙ c.new.ensures.items, refl, refl)
+      ∙ map-append (λ v. v.items) c.args.self.now.lists.items (c.replace-list.result ∷ [])
+      ∙ ap (λ l. map (λ v. v.items) c.args.self.now.lists.items ++ l.items ∷ []) c.replace-list.ensures.value,
+  ap (λ v. v.items) c.replace-list.ensures.after ∙ c.new.ensures.items,
+  refl,
+  refl,
+)
 
 pub returns-in_ok-push-in-Some-clause-taken : goal.returns-in_ok-push-in-Some-clause-taken
 returns-in_ok-push-in-Some-clause-taken c = (λ sets. sym (c.in-Some.ensures.depth sets), refl, c.in_ok-push-in-Some.ensures.items, refl)
