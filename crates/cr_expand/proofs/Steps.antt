@@ -1,10 +1,11 @@
 -- Steps of the machine, by the use of the head.
-use Rattle.std.proofs.Common.{◌≡◌, ℕ, ◌-◌, List, [], ◌∷◌, ◌++◌, map, drop, reverse, refl, sym, ap, subst, ◌∙◌, arith, append-nil}
+use Rattle.std.proofs.Common.{◌≡◌, ℕ, suc, ◌+◌, ◌-◌, ◌<◌, ◌≤◌, Bool, List, [], ◌∷◌, ◌++◌, length, map, drop, reverse, refl, sym, ap, subst, ◌∙◌, arith, append_assoc, append-nil, Option, Some, None}
 use Rattle.std.specs.List.{All}
 use Rattle.std.proofs.lemmas.List.{map-append, reverse-append}
-use Rattle.std.proofs.lemmas.List.Elements.{All-head, All-tail, All-weaker, All-nil, All-cons}
+use Rattle.std.proofs.lemmas.List.Elements.{All-head, All-tail, All-weaker, All-nil, All-cons, All-append}
 use Rattle.cr_base.specs.declared.token.PpKind.{PpKind}
 use Rattle.cr_base.specs.declared.cause.Role.TheVariants.{MacroName}
+use Rattle.cr_macros.specs.declared.macros.Macro.{Macro}
 use Rattle.cr_macros.specs.declared.macros.Seen.{Seen}
 use Rattle.cr_expand.specs.declared.held.Held.{Held}
 use Rattle.cr_expand.specs.declared.slot.Slot.{Slot}
@@ -13,21 +14,21 @@ use Rattle.cr_expand.specs.declared.machine.Machine.{Machine}
 use Rattle.cr_expand.specs.declared.machine.ExpStep.{ExpStep}
 use Rattle.cr_expand.specs.declared.machine.ExpStep.TheVariants as step
 use Rattle.cr_expand.specs.declared.machine.TheConstants.{LIMIT}
-use Rattle.cr_macros.specs.Tokens.{Text, Token, token_of, Event, Rule, takes}
+use Rattle.cr_macros.specs.Tokens.{Text, Token, token_of, Event, Rule, takes, with_name}
 use Rattle.cr_macros.specs.Substitution.{made}
 use Rattle.cr_macros.specs.Definition.{text_of}
-use Rattle.cr_macros.specs.Expansion.{Table, Keep, Predefined, use_of}
+use Rattle.cr_macros.specs.Expansion.{Table, Use, Keep, Predefined, Object, use_of}
 use Rattle.cr_macros.specs.Laws.{FollowsTheRules}
-use Rattle.cr_macros.specs.MacroTables.{Macros, table_of}
+use Rattle.cr_macros.specs.MacroTables.{Macros, macro_text, table_of}
 use Rattle.cr_expand.specs.HideSets.{Sets, Grows}
-use Rattle.cr_expand.specs.Held.{held, all_held, hidden, noted, watch_of}
+use Rattle.cr_expand.specs.Held.{held, all_held, hidden, noted, watch_of, IsKnown, AreKnown}
 use Rattle.cr_expand.specs.Frames.{Call}
-use Rattle.cr_expand.specs.Running.{Waiting, Piece, Stands, current, before, goes_on, leads}
+use Rattle.cr_expand.specs.Running.{Waiting, Piece, Stands, Ends, current, before, goes_on, leads, put_for}
 use Rattle.cr_expand.specs.Slots.{piece, pieces, tokens, IsSlotKnown, AreSlotsKnown}
-use Rattle.cr_expand.specs.Machines.{waiting_of, waiting, still, IsCallHeld, IsCallKnown, IsMachine, AreMacros, IsGiven, IsStep, IsPredefinedUse}
+use Rattle.cr_expand.specs.Machines.{waiting_of, waiting, still, IsCallHeld, IsCallKnown, IsMachine, AreMacros, IsGiven, IsSameElsewhere, IsUse, IsStep, IsPredefinedUse, IsPut}
 use Rattle.cr_expand.proofs.Noted.{noted_append}
 use Rattle.cr_expand.proofs.Sets.{grows_same}
-use Rattle.cr_expand.proofs.Going.{with_out, predefined_events, outer_keeps, inner_keeps, outer_predefined, inner_predefined}
+use Rattle.cr_expand.proofs.Going.{with_out, predefined_events, outer_keeps, inner_keeps, outer_predefined, inner_predefined, goes_object, leads_none, then_same}
 use Rattle.cr_expand.proofs.KeptMachine.{table_kept, all_waiting_kept, waiting_of_kept, pieces_kept}
 
 pub all_front : {A : Type 0} (P : A → Type 0) (xs : List A) (x : A) → All P (xs ++ x ∷ []) → All P xs

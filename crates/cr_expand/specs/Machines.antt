@@ -1,8 +1,10 @@
 -- What a machine of macro expansion holds, and what it still gives.
-use Rattle.std.specs.Prelude.{◌≡◌, ℕ, suc, ◌+◌, ◌-◌, ◌<◌, ◌≤◌, true, false, List, [], ◌∷◌, ◌++◌, length, map, reverse, slice_index_or, Option, Some, None, ◌⊎◌}
+use Rattle.std.specs.Prelude.{◌≡◌, ℕ, suc, ◌+◌, ◌-◌, ◌<◌, ◌≤◌, Bool, true, false, List, [], ◌∷◌, ◌++◌, length, map, reverse, slice_index_or, Option, Some, None, ◌⊎◌}
 use Rattle.std.specs.List.{All}
 use Rattle.cr_base.specs.declared.token.Name.{Name}
+use Rattle.cr_base.specs.declared.token.PpTok.{PpTok}
 use Rattle.cr_macros.specs.declared.macros.Macro.{Macro}
+use Rattle.cr_macros.specs.declared.macros.Seen.{Seen}
 use Rattle.cr_macros.specs.declared.fault.ExpandFault.{ExpandFault}
 use Rattle.cr_macros.specs.declared.fault.ExpandFault.TheVariants as fault
 use Rattle.cr_expand.specs.declared.held.Held.{Held}
@@ -18,11 +20,11 @@ use Rattle.cr_expand.specs.declared.machine.Machine.{Machine}
 use Rattle.cr_expand.specs.declared.machine.ExpStep.{ExpStep}
 use Rattle.cr_expand.specs.declared.machine.ExpStep.TheVariants as step
 use Rattle.cr_expand.specs.declared.machine.TheConstants.{LIMIT}
-use Rattle.cr_macros.specs.Tokens.{Text, Token, token_of, MacroText, Event, Rule, Taken, Answer, Gave, Work, takes, with_name, both}
+use Rattle.cr_macros.specs.Tokens.{Text, Token, token_of, MacroText, Event, Rule, Taken, Answer, Gave, Stopped, Work, takes, with_name, both}
 use Rattle.cr_macros.specs.Definition.{text_of}
 use Rattle.cr_macros.specs.MacroTables.{Macros, macro_named, macro_text, table_of}
 use Rattle.cr_expand.specs.HideSets.{Sets, Grows}
-use Rattle.cr_expand.specs.Held.{held, all_held, all_args, hidden, IsKnown, AreKnown, IsNamed, AreTables, Faults, watch_of, noted}
+use Rattle.cr_expand.specs.Held.{held, all_held, all_args, hidden, IsKnown, AreKnown, IsNamed, AreTables, Faults, watch_of, noted, Watch}
 use Rattle.cr_expand.specs.Frames.{Call}
 use Rattle.cr_expand.specs.Running.{Waiting, current, before, goes_on, leads, put_for, needs_more}
 use Rattle.cr_expand.specs.Slots.{pieces, tokens, ends, ended, begun, AreSlotsKnown}
