@@ -378,3 +378,38 @@ fn work_has_its_limit(rt: HostRuntime) -> Result<(), Fail> {
     assert!(rt; over == None);
     Ok(())
 }
+
+// A macro of nothing, and twenty each of which is the one before twice.
+const DOUBLINGS: [&[u8]; 21] = [
+    b"# define A0",
+    b"# define A1 A0 A0",
+    b"# define A2 A1 A1",
+    b"# define A3 A2 A2",
+    b"# define A4 A3 A3",
+    b"# define A5 A4 A4",
+    b"# define A6 A5 A5",
+    b"# define A7 A6 A6",
+    b"# define A8 A7 A7",
+    b"# define A9 A8 A8",
+    b"# define A10 A9 A9",
+    b"# define A11 A10 A10",
+    b"# define A12 A11 A11",
+    b"# define A13 A12 A12",
+    b"# define A14 A13 A13",
+    b"# define A15 A14 A14",
+    b"# define A16 A15 A15",
+    b"# define A17 A16 A16",
+    b"# define A18 A17 A17",
+    b"# define A19 A18 A18",
+    b"# define A20 A19 A19",
+];
+
+#[test]
+fn twenty_doublings_use_all_work(rt: HostRuntime) -> Result<(), Fail> {
+    let alloc = rt.alloc();
+    let last = counted_behind(alloc, &DOUBLINGS, b"A20 A0 A0 A0", 0)?;
+    assert!(rt; last == Some((0, 4_194_304)));
+    let over = counted_behind(alloc, &DOUBLINGS, b"A20 A0 A0 A0 A0", 0)?;
+    assert!(rt; over == None);
+    Ok(())
+}
