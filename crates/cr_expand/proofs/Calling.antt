@@ -141,6 +141,7 @@ module _ (names new : List Text) (macros : Macros) (old now : Machine) (more : L
       → IsPut names new old now work rest → waiting new macros now.sets now.frames.items ≡ ws → AreSlotsKnown names old.sets rest → IsUse names new macros old now more []
   puts ws work rest e p w a = record {
     events = p.events;
+    one = p.one;
     goes = e ∙ ap (λ r. then_do r (λ ts. goes_on T ws (before ts (front names old.sets rest more)))) p.gives
         ∙ leads_none p.events (goes_on T ws (before (all_held new now.sets p.list) (front names old.sets rest more)) (LIMIT - now.used))
         ∙ ap (leads [] p.events) (sym (still_now names new macros old now more mach known g k file ws (before (all_held new now.sets p.list) (front names old.sets rest more)) (LIMIT - now.used) w

@@ -44,6 +44,7 @@ use_after : (names new : List Text) (macros : Macros) (first mid now : Machine) 
     → IsUse names new macros mid now more out → IsUse names new macros first now more out
 use_after names new macros first mid now more out e s r u = record {
   events = u.events;
+  one = u.one;
   goes = e ∙ u.goes;
   seen = u.seen ∙ ap (λ l. l ++ noted (watch_of names mid.notes) u.events) s ∙ ap (λ w. first.notes.seen.items ++ noted w u.events) (same_events names first mid r.0 r.1);
 }

@@ -90,9 +90,10 @@ uses [] = 0
 uses (Rule ∷ events) = 1 + uses events
 uses (Taken text place role ∷ events) = uses events
 
--- One use of a rule leads from one machine to another, and gives these tokens of the result; its events are noted.
+-- Exactly one use of a rule leads from one machine to another, and gives these tokens of the result; its events are noted.
 pub record IsUse (names new : List Text) (macros : Macros) (old now : Machine) (more out : List Token) : Type 0 where
   pub events : List Event
+  pub one : uses events ≡ 1
   pub goes : still names macros old more ≡ leads out events (still new macros now more)
   pub seen : now.notes.seen.items ≡ old.notes.seen.items ++ noted (watch_of names old.notes) events
 
@@ -100,6 +101,7 @@ pub record IsUse (names new : List Text) (macros : Macros) (old now : Machine) (
 pub record IsPut (names new : List Text) (old now : Machine) (work : Work (List Token)) (rest : List Slot) : Type 0 where
   pub list : List Held
   pub events : List Event
+  pub one : uses events ≡ 1
   pub gives : work (LIMIT - old.used) ≡ Gave (all_held new now.sets list) (LIMIT - now.used) events
   pub seen : now.notes.seen.items ≡ old.notes.seen.items ++ noted (watch_of names old.notes) events
   pub slots : now.slots.items ≡ tokens list ++ rest
