@@ -26,16 +26,17 @@ use Rattle.cr_expand.specs.Frames as frames
 use Rattle.cr_expand.specs.Running.{Waiting, Piece, Stands, Ends, current, behind, before, first_lists, behind_lists, goes_on, put_for}
 use Rattle.cr_expand.specs.Slots.{tokens, ended, ends, begun, IsSlotKnown, AreSlotsKnown}
 use Rattle.cr_expand.specs.Turns.{list_of, IsCallUse}
-use Rattle.cr_expand.specs.Wanted.{is_wanted}
-use Rattle.cr_expand.specs.Machines.{means_of, waiting_of, waiting, total, still, IsCallKnown, IsMachine, AreMacros, IsEntered, IsMiscounted, next_call}
+use Rattle.cr_expand.specs.Wanted.{is_wanted, is_whole}
+use Rattle.cr_expand.specs.Machines.{means_of, waiting_of, waiting, total, still, IsCallHeld, IsCallKnown, IsMachine, AreMacros, IsEntered, IsMiscounted, next_call}
 use Rattle.cr_expand.proofs.Telling.{no_memory}
 use Rattle.cr_expand.proofs.Kept.{held_kept, all_args_kept}
 use Rattle.cr_expand.proofs.Sets.{grows_same}
 use Rattle.cr_expand.proofs.Counting.{length_map}
 use Rattle.cr_expand.proofs.Going.{behind_before, with_done, IsDropped, goes_call, goes_wrong, predefined_over}
 use Rattle.cr_expand.proofs.Entering.{arguments_same, entered, goes_first, goes_next}
-use Rattle.cr_expand.proofs.Steps.{all_last, waiting_more, front, front_tokens, still_old, still_now, front_old, calls_old}
-use Rattle.cr_expand.proofs.Calling.{lists_front, front_begun, texts_arguments, all_kept, total_last, raw_known, lists_known, ended_known, begun_known, inside_known, ends_lists}
+use Rattle.cr_expand.proofs.Steps.{all_last, waiting_more, front, front_tokens, still_old, still_now, waiting_kept, front_kept, front_old, rest_known, calls_old, calls_held}
+use Rattle.cr_expand.proofs.Wholes.{all_kept_all, all_kept_text, put_kept_then}
+use Rattle.cr_expand.proofs.Calling.{lists_front, front_begun, texts_arguments, front_calls, all_kept, total_last, raw_known, lists_known, ended_known, begun_known, inside_known, ends_lists}
 use Rattle.cr_expand.proofs.KeptMachine.{pieces_kept}
 
 is_dropped_as : (a b : Bool) (ps qs : List Piece) → a ≡ b → IsDropped a ps qs → IsDropped b ps qs
@@ -46,7 +47,7 @@ module _ (names new : List Text) (macros : Macros) (old now : Machine) (more : L
   T = table_of names macros (text_of names old.file)
 
   pub wrong_use : (law : FollowsTheRules) (h : Held) (rest : List Slot) (cause : Cause) → old.slots.items ≡ slot.Token h ∷ rest → use_of T (held names old.sets h) (current (front names old.sets rest more)) ≡ Wrong cause
-      → still names macros old more ≡ Stopped cause
+      → still names macros old more ≡ Stopped cause []
   wrong_use law h rest cause e u =
       still_old names new macros old now more mach known g k file _ (Stands (held names old.sets h) ∷ front names old.sets rest more) refl (front_old names new macros old now more mach known g k file (slot.Token h) rest e)
       ∙ goes_wrong T law (waiting names macros old.sets old.frames.items) (held names old.sets h) (front names old.sets rest more) cause (LIMIT - old.used) u
@@ -122,7 +123,7 @@ module _ (names new : List Text) (macros : Macros) (old now : Machine) (more : L
     rest_is_known = All-tail (IsSlotKnown names old.sets) (slot.Token u.closes) u.rest parts_known.1
 
     pub raw_is_known : (i : IsEntered names old now h m u.params u.inside u.closes u.rest) → All (AreKnown names old.sets) i.call.raw
-    raw_is_known i = raw_known names old.sets u.inside i.lists i.call.raw parts_known.0 i.among i.raw
+    raw_is_known i = subst (All (AreKnown names old.sets)) (sym i.raw) (all_kept_all (IsKnown names old.sets) (is_whole (macro_text names m)) 0 i.all (raw_known names old.sets u.inside i.lists i.all parts_known.0 i.among i.all_are))
 
     pub slots_are_known : (i : IsEntered names old now h m u.params u.inside u.closes u.rest) → AreSlotsKnown names old.sets now.slots.items
     slots_are_known i =
@@ -134,7 +135,8 @@ module _ (names new : List Text) (macros : Macros) (old now : Machine) (more : L
     enters i x l =
         let t = held names old.sets h in
         let M = macro_text names m in
-        let args = all_args names old.sets i.call.raw in
+        let args = all_args names old.sets i.all in
+        let raw = all_args names old.sets i.call.raw in
         let ps = front names old.sets (ended i.lists ++ u.rest) more in
         let qs = front names old.sets now.slots.items more in
         let lf = lists_front names old.sets i.lists u.rest more in
@@ -143,15 +145,16 @@ module _ (names new : List Text) (macros : Macros) (old now : Machine) (more : L
         still_old names new macros old now more mach known g k file ws (Stands t ∷ front names old.sets behind_name more) refl (front_old names new macros old now more mach known g k file (slot.Token h) behind_name u.slots_are)
         ∙ goes_call T law ws t M args (held names old.sets u.closes) (front names old.sets behind_name more) (front names old.sets u.rest more) (LIMIT - old.used)
         (u.used ∙ ap (counted_call t M (held names old.sets u.closes) (list_of names old.sets u.rest more)) i.args) behind_same
-        ∙ arguments_same T law t M args args (all_args names old.sets i.lists) H (λ ts. goes_on T ws (before ts (front names old.sets u.rest more))) (LIMIT - old.used) (texts_arguments names old.sets i.call.raw i.lists i.raw)
-        ∙ ap (λ a. (expanded (expand T) (body_items M) 0 a >>= λ fulls. put_for t M args fulls H >>= λ ts. goes_on T ws (before ts (front names old.sets u.rest more))) (LIMIT - old.used)) (sym lf.0 ∙ ap (λ z. first_lists z ps) i.count)
-        ∙ ap (λ q. (expanded (expand T) (body_items M) 0 (first_lists (suc i.call.more) ps) >>= λ fulls. put_for t M args fulls H >>= λ ts. goes_on T ws (before ts q)) (LIMIT - old.used)) (sym lf.1 ∙ ap (λ z. behind_lists z ps) i.count)
-        ∙ goes_first T law ws t M args H i.call.more ps qs (LIMIT - old.used)
+        ∙ put_kept_then t M args raw H (expanded (expand T) (body_items M) 0 args (LIMIT - old.used)) (λ ts. goes_on T ws (before ts (front names old.sets u.rest more))) (ap (all_args names old.sets) i.raw ∙ all_kept_text names old.sets (is_whole M) 0 i.all)
+        ∙ arguments_same T law t M raw args (all_args names old.sets i.lists) H (λ ts. goes_on T ws (before ts (front names old.sets u.rest more))) (LIMIT - old.used) (texts_arguments names old.sets i.all i.lists i.all_are)
+        ∙ ap (λ a. (expanded (expand T) (body_items M) 0 a >>= λ fulls. put_for t M raw fulls H >>= λ ts. goes_on T ws (before ts (front names old.sets u.rest more))) (LIMIT - old.used)) (sym lf.0 ∙ ap (λ z. first_lists z ps) i.count)
+        ∙ ap (λ q. (expanded (expand T) (body_items M) 0 (first_lists (suc i.call.more) ps) >>= λ fulls. put_for t M raw fulls H >>= λ ts. goes_on T ws (before ts q)) (LIMIT - old.used)) (sym lf.1 ∙ ap (λ z. behind_lists z ps) i.count)
+        ∙ goes_first T law ws t M raw H i.call.more ps qs (LIMIT - old.used)
         (subst (λ s. IsDropped (is_wanted M 0) ps (front names old.sets s more)) (sym i.slots) (front_begun names old.sets more (is_wanted M 0) (ended i.lists ++ u.rest) some))
-        ∙ sym (still_now names new macros old now more mach known g k file (entered t M args H i.call.more ∷ ws) qs (LIMIT - old.used)
+        ∙ sym (still_now names new macros old now more mach known g k file (entered t M raw H i.call.more ∷ ws) qs (LIMIT - old.used)
         (ap (λ y. waiting y macros now.sets now.frames.items) x ∙ ap (waiting names macros now.sets) i.frames ∙ waiting_more names macros now.sets old.frames.items i.call
         ∙ ap (λ w. w ∷ waiting names macros now.sets old.frames.items) call_is
-        ∙ ap (λ w. entered t M args H i.call.more ∷ w) (sym (ap (λ y. waiting y macros now.sets old.frames.items) x) ∙ all_kept names new macros old now more mach known g k file))
+        ∙ ap (λ w. entered t M raw H i.call.more ∷ w) (sym (ap (λ y. waiting y macros now.sets old.frames.items) x) ∙ all_kept names new macros old now more mach known g k file))
         (ap (λ y. front y now.sets now.slots.items more) x ∙ slots_same) l) where
           some_ends : (lists : List (List Held)) (rest : List Slot) (mo : ℕ) → length lists ≡ suc mo → 0 < ends (ended lists ++ rest)
           some_ends lists rest mo e = let a = ends_lists lists rest in omega (arith, a, e)

@@ -1,5 +1,5 @@
 -- The number of a call's arguments.
-use Rattle.std.proofs.Common.{◌≡◌, ℕ, suc, ◌+◌, ◌-◌, ◌<◌, Bool, true, false, cond, List, [], ◌∷◌, ◌++◌, length, map, refl, sym, ap, ◌∙◌, arith, Option, Some, None, inl, inr}
+use Rattle.std.proofs.Common.{◌≡◌, ℕ, zero, suc, ◌+◌, ◌-◌, ◌<◌, ◌≤◌, Bool, true, false, cond, List, [], ◌∷◌, ◌++◌, length, map, refl, sym, ap, ◌∙◌, arith, length-append, Option, Some, None, inl, inr, ◌⊎◌}
 use Rattle.std.specs.Prelude.{◌==◌, if◌then◌else◌, option_map}
 use Rattle.std.proofs.lemmas.List.{map-append}
 use Rattle.std.proofs.lemmas.Bool.Decides.{nat_tests}
@@ -14,9 +14,10 @@ use Rattle.cr_expand.specs.Held.{held, all_held, all_args}
 use Rattle.cr_macros.specs.declared.macros.Macro.{Macro}
 use Rattle.cr_expand.specs.declared.slot.Slot.{Slot}
 use Rattle.cr_expand.specs.Calls.{part_at, ArePartedAt}
-use Rattle.cr_expand.specs.Wanted.{is_one_empty, counted}
+use Rattle.cr_expand.specs.Wanted.{is_one_empty, counted, kept, all_kept}
 use Rattle.cr_expand.specs.Machines.{AreArguments, AreTaken}
 use Rattle.cr_expand.proofs.PartedLists.{by_part, parted_at}
+use Rattle.cr_expand.proofs.Wholes.{kept_none, all_kept_last, length_all_kept}
 
 pub length_map : {A B : Type 0} (f : A → B) (xs : List A) → length (map f xs) ≡ length xs
 length_map f [] = refl
@@ -161,6 +162,77 @@ counted_lists count false lists raw e = by (count == 0) (length lists == count) 
   by false true e = inl (let q : raw ≡ lists = cc in q)
   by false false e = absurd (let q : ⊥ = cc in q)
 
+-- Of what is counted, what is wanted is kept.
+some_kept : (w : ℕ → Bool) (lists : List (List Held)) → option_map (all_kept w 0) (Some lists) ≡ Some (all_kept w 0 lists)
+some_kept w lists = refl
+
+one_kept : (w : ℕ → Bool) (lists : List (List Held)) → is_one_empty (all_kept w 0 lists) ≡ is_one_empty lists
+one_kept w [] = refl
+one_kept w (l ∷ k ∷ lists) = not_one (w 0) l (kept (w (0 + 1)) k) (all_kept w (0 + 1 + 1) lists) ∙ sym (not_two l k lists) where
+  not_two : (l k : List Held) (lists : List (List Held)) → is_one_empty (l ∷ k ∷ lists) ≡ false
+  not_two [] k lists = refl
+  not_two (h ∷ l) k lists = refl
+
+  not_one : (b : Bool) (l k : List Held) (lists : List (List Held)) → is_one_empty (kept b l ∷ k ∷ lists) ≡ false
+  not_one true l k lists = not_two l k lists
+  not_one false [] k lists = refl
+  not_one false (h ∷ l) k lists = refl
+one_kept w (l ∷ []) = by (w 0) l where
+  by : (b : Bool) (l : List Held) → is_one_empty (kept b l ∷ []) ≡ is_one_empty (l ∷ [])
+  by true l = refl
+  by false [] = refl
+  by false (h ∷ l) = refl
+
+last_kept : (w : ℕ → Bool) (lists : List (List Held)) → all_kept w 0 lists ++ [] ∷ [] ≡ all_kept w 0 (lists ++ [] ∷ [])
+last_kept w lists = ap (λ l. all_kept w 0 lists ++ l ∷ []) (sym (kept_none (w (length lists)))) ∙ sym (all_kept_last w lists [])
+
+pub counted_kept : (count : ℕ) (variadic : Bool) (w : ℕ → Bool) (lists : List (List Held)) → counted count variadic (all_kept w 0 lists) ≡ option_map (all_kept w 0) (counted count variadic lists)
+counted_kept count true w lists =
+    ap (λ n. if n == count + 1 then Some (all_kept w 0 lists) else if n == count then Some (all_kept w 0 lists ++ [] ∷ []) else None) (length_all_kept w 0 lists)
+    ∙ ap (λ l. if length lists == count + 1 then Some (all_kept w 0 lists) else if length lists == count then Some l else None) (last_kept w lists)
+    ∙ by (length lists == count + 1) (length lists == count) where
+      by : (b d : Bool) → cond b (Some (all_kept w 0 lists)) (cond d (Some (all_kept w 0 (lists ++ [] ∷ []))) None) ≡ option_map (all_kept w 0) (cond b (Some lists) (cond d (Some (lists ++ [] ∷ [])) None))
+      by true d = refl
+      by false true = refl
+      by false false = refl
+counted_kept count false w lists =
+    ap (λ n. if count == 0 then (if is_one_empty (all_kept w 0 lists) then Some [] else None) else if n == count then Some (all_kept w 0 lists) else None) (length_all_kept w 0 lists)
+    ∙ ap (λ b. if count == 0 then (if b then Some [] else None) else if length lists == count then Some (all_kept w 0 lists) else None) (one_kept w lists)
+    ∙ by (count == 0) (is_one_empty lists) (length lists == count) where
+      by : (b c d : Bool) → cond b (cond c (Some []) None) (cond d (Some (all_kept w 0 lists)) None) ≡ option_map (all_kept w 0) (cond b (cond c (Some []) None) (cond d (Some lists) None))
+      by true true d = refl
+      by true false d = refl
+      by false c true = refl
+      by false c false = refl
+
+kept_of : (w : ℕ → Bool) (raw : List (List Held)) (o : Option (List (List Held))) → Some raw ≡ option_map (all_kept w 0) o → (all : List (List Held)) × (Some all ≡ o) × (raw ≡ all_kept w 0 all)
+kept_of w raw None e = absurd (let q : ⊥ = cc in q)
+kept_of w raw (Some all) e = (all, refl, (let q : raw ≡ all_kept w 0 all = cc in q))
+
+none_of : (w : ℕ → Bool) (o : Option (List (List Held))) → None ≡ option_map (all_kept w 0) o → None ≡ o
+none_of w None e = refl
+none_of w (Some all) e = absurd (let q : ⊥ = cc in q)
+
+-- how many are counted at most
+counted_few : (count : ℕ) (variadic : Bool) (lists raw : List (List Held)) → Some raw ≡ counted count variadic lists → (length raw ≤ count + 1) × (length lists ≤ count + 1)
+counted_few count true lists raw e = by (length lists == count + 1) (length lists == count) refl refl e where
+  by : (b d : Bool) → (length lists == count + 1) ≡ b → (length lists == count) ≡ d → Some raw ≡ cond b (Some lists) (cond d (Some (lists ++ [] ∷ [])) None) → (length raw ≤ count + 1) × (length lists ≤ count + 1)
+  by true d f g e = let q : raw ≡ lists = cc in let l = ap length q in let s : length lists ≡ count + 1 = grind (arith, nat_tests) in (omega (arith, l, s), omega (arith, s))
+  by false true f g e =
+      let q : raw ≡ lists ++ [] ∷ [] = cc in let l = ap length q ∙ length-append lists ([] ∷ []) in let s : length lists ≡ count = grind (arith, nat_tests) in (omega (arith, l, s), omega (arith, s))
+  by false false f g e = absurd (let q : ⊥ = cc in q)
+counted_few count false lists raw e = by (count == 0) (length lists == count) refl e where
+  one : (lists : List (List Held)) → Some raw ≡ (if is_one_empty lists then Some [] else None) → (length raw ≤ count + 1) × (length lists ≤ count + 1)
+  one [] e = absurd (let q : ⊥ = cc in q)
+  one ([] ∷ []) e = let q : raw ≡ [] = cc in let l = ap length q in (omega (arith, l), omega arith)
+  one ([] ∷ b ∷ lists) e = absurd (let q : ⊥ = cc in q)
+  one ((h ∷ hs) ∷ lists) e = absurd (let q : ⊥ = cc in q)
+
+  by : (b d : Bool) → (length lists == count) ≡ d → Some raw ≡ cond b (if is_one_empty lists then Some [] else None) (cond d (Some lists) None) → (length raw ≤ count + 1) × (length lists ≤ count + 1)
+  by true d f e = one lists e
+  by false true f e = let q : raw ≡ lists = cc in let l = ap length q in let s : length lists ≡ count = grind (arith, nat_tests) in (omega (arith, l, s), omega (arith, s))
+  by false false f e = absurd (let q : ⊥ = cc in q)
+
 module _ (names : List Text) (m : Macro) (params : List Name) (a b : Slot) (inside : List Held) (rest slots : List Slot) (lists : List (List Held)) (n : ℕ) (parts : ArePartedAt names n a b inside rest lists slots) where
   pub some_lists : 0 < length lists
   some_lists = by lists (parts.1 []) where
@@ -174,20 +246,32 @@ module _ (names : List Text) (m : Macro) (params : List Name) (a b : Slot) (insi
   by_count : n ≡ (if m.variadic then length params else length inside) → (sets : Sets) → arguments (map (text_of names) params) m.variadic (all_held names sets inside) ≡ option_map (all_args names sets) (counted (length params) m.variadic lists)
   by_count e sets = counted_is names sets params m.variadic inside lists (parts.1 sets ∙ ap (λ k. parted k 0 (all_held names sets inside)) e)
 
-  pub taken : (raw : List (List Held)) (more : ℕ) → n ≡ (if m.variadic then length params else length inside) → Some raw ≡ counted (length params) m.variadic lists → length lists ≡ suc more
-      → AreTaken names slots m params a b inside rest raw more
-  taken raw more e c l = record {
-    lists = lists;
-    slots = parts.0;
-    count = l;
-    raw_are = counted_lists (length params) m.variadic lists raw c;
-    args = λ sets. by_count e sets ∙ ap (option_map (all_args names sets)) (sym c);
-    among = parts.2;
-    size = parts.3;
-  }
+  taken_all : (w : ℕ → Bool) (raw all : List (List Held)) (more : ℕ) → n ≡ (if m.variadic then length params else length inside) → Some all ≡ counted (length params) m.variadic lists → raw ≡ all_kept w 0 all
+      → length lists ≡ suc more → AreTaken names slots m params a b inside rest w raw more
+  taken_all w raw all more e c k l =
+      let f = counted_few (length params) m.variadic lists all c in record {
+        lists = lists;
+        all = all;
+        slots = parts.0;
+        count = l;
+        all_are = counted_lists (length params) m.variadic lists all c;
+        args = λ sets. by_count e sets ∙ ap (option_map (all_args names sets)) (sym c);
+        raw_are = k;
+        few = (f.0, omega (arith, f.1, l));
+        among = parts.2;
+        size = parts.3;
+      }
 
-  pub miscounted : n ≡ (if m.variadic then length params else length inside) → None ≡ counted (length params) m.variadic lists → (sets : Sets) → arguments (map (text_of names) params) m.variadic (all_held names sets inside) ≡ None
-  miscounted e c = λ sets. by_count e sets ∙ ap (option_map (all_args names sets)) (sym c)
+  pub taken : (w : ℕ → Bool) (some raw : List (List Held)) (more : ℕ) → some ≡ all_kept w 0 lists → n ≡ (if m.variadic then length params else length inside) → Some raw ≡ counted (length params) m.variadic some
+      → length some ≡ suc more → AreTaken names slots m params a b inside rest w raw more
+  taken w some raw more s e c l =
+      let k = kept_of w raw (counted (length params) m.variadic lists) (c ∙ ap (counted (length params) m.variadic) s ∙ counted_kept (length params) m.variadic w lists) in
+      taken_all w raw k.0 more e k.1 k.2 (sym (length_all_kept w 0 lists) ∙ ap length (sym s) ∙ l)
+
+  pub miscounted : (w : ℕ → Bool) (some : List (List Held)) → some ≡ all_kept w 0 lists → n ≡ (if m.variadic then length params else length inside) → None ≡ counted (length params) m.variadic some
+      → (sets : Sets) → arguments (map (text_of names) params) m.variadic (all_held names sets inside) ≡ None
+  miscounted w some s e c = λ sets. by_count e sets
+      ∙ ap (option_map (all_args names sets)) (sym (none_of w (counted (length params) m.variadic lists) (c ∙ ap (counted (length params) m.variadic) s ∙ counted_kept (length params) m.variadic w lists)))
 
 -- how many commas part arguments
 pub commas_are : (variadic : Bool) (n count close : ℕ) (params : List Name) (inside : List Held) → n ≡ (if variadic then count else close - 2) → count ≡ length params → close ≡ 2 + length inside → n ≡ (if variadic then length params else length inside)

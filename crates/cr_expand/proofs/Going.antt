@@ -14,31 +14,31 @@ use Rattle.cr_expand.specs.Running.{Piece, Stands, Ends, current, behind, before
 
 pub after_none : {A : Type 0} (r : Answer A) → after [] r ≡ r
 after_none (Gave a left events) = refl
-after_none (Stopped cause) = refl
+after_none (Stopped cause stopped) = refl
 
 after_after : {A : Type 0} (s1 s2 : List Event) (r : Answer A) → after s1 (after s2 r) ≡ after (s1 ++ s2) r
 after_after s1 s2 (Gave a left events) = ap (Gave a left) (sym (append_assoc s1 s2 events))
-after_after s1 s2 (Stopped cause) = refl
+after_after s1 s2 (Stopped cause stopped) = ap (Stopped cause) (sym (append_assoc s1 s2 stopped))
 
 after_then : {A B : Type 0} (s : List Event) (r : Answer A) (f : A → Work B) → then_do (after s r) f ≡ after s (then_do r f)
 after_then s (Gave a left events) f = sym (after_after s events (f a left))
-after_then s (Stopped cause) f = refl
+after_then s (Stopped cause stopped) f = refl
 
 pub then_then : {A B C : Type 0} (r : Answer A) (f : A → Work B) (g : B → Work C) → then_do (then_do r f) g ≡ then_do r (λ a. f a >>= g)
 then_then (Gave a left events) f g = after_then events (f a left) g
-then_then (Stopped cause) f g = refl
+then_then (Stopped cause stopped) f g = refl
 
 pub then_same : {A B : Type 0} (r : Answer A) (f g : A → Work B) → ((a : A) (left : ℕ) → f a left ≡ g a left) → then_do r f ≡ then_do r g
 then_same (Gave a left events) f g h = ap (after events) (h a left)
-then_same (Stopped cause) f g h = refl
+then_same (Stopped cause stopped) f g h = refl
 
 then_give : {A : Type 0} (r : Answer A) → then_do r give ≡ r
 then_give (Gave a left events) = ap (Gave a left) (append-nil events)
-then_give (Stopped cause) = refl
+then_give (Stopped cause stopped) = refl
 
 pub leads_none : (events : List Event) (r : Answer (List Token)) → after events r ≡ leads [] events r
 leads_none events (Gave ts left more) = refl
-leads_none events (Stopped cause) = refl
+leads_none events (Stopped cause stopped) = refl
 
 pub current_before : (ts : List Token) (ps : List Piece) → current (before ts ps) ≡ ts ++ current ps
 current_before [] ps = refl
@@ -85,7 +85,7 @@ module _ (table : Table) (law : FollowsTheRules) where
       ∙ ap (λ r. then_do r (then_goes ws (behind ps))) (law table (t ∷ current ps) left ∙ ap (λ v. by_use (expand table) t (current ps) v left) e)
 
   pub goes_wrong : (ws : List Waiting) (t : Token) (ps : List Piece) (cause : Cause) (left : ℕ) → use_of table t (current ps) ≡ Wrong cause
-      → goes_on table ws (Stands t ∷ ps) left ≡ Stopped cause
+      → goes_on table ws (Stands t ∷ ps) left ≡ Stopped cause []
   goes_wrong ws t ps cause left e = at_head ws t ps (Wrong cause) left e
 
   -- nothing is left
@@ -95,7 +95,7 @@ module _ (table : Table) (law : FollowsTheRules) where
   -- one token is given, and these events
   gives_one : (t : Token) (events : List Event) (r : Answer (List Token)) → after events (then_do r (λ out. give (t ∷ out))) ≡ leads (t ∷ []) events r
   gives_one t events (Gave ts left more) = ap (λ es. Gave (t ∷ ts) left (events ++ es)) (append-nil more)
-  gives_one t events (Stopped cause) = refl
+  gives_one t events (Stopped cause stopped) = refl
 
   pub outer_keeps : (t : Token) (ps : List Piece) (left : ℕ) → use_of table t (current ps) ≡ Keep
       → goes_on table [] (Stands t ∷ ps) left ≡ leads (t ∷ []) (Rule ∷ []) (goes_on table [] ps left)
@@ -124,10 +124,10 @@ module _ (table : Table) (law : FollowsTheRules) where
   inner_keeps ws w t ps left e = at_head (w ∷ ws) t ps Keep left e ∙ gives_inner ws w t (behind ps) (Rule ∷ []) (expand table (current ps) left)
 
   paid : {A B : Type 0} (n left : ℕ) (a : A) (f : A → Work B) → n ≤ left → (pay n a >>= f) left ≡ after (Rule ∷ []) (f a (left - n))
-  paid {B} n left a f h = ap (λ b. then_do {B = B} (cond b (Stopped Over) (Gave a (left - n) (Rule ∷ []))) f) (let e : nat_lt left n ≡ false = grind (arith, nat_tests) in e)
+  paid {B} n left a f h = ap (λ b. then_do {B = B} (cond b (Stopped Over []) (Gave a (left - n) (Rule ∷ []))) f) (let e : nat_lt left n ≡ false = grind (arith, nat_tests) in e)
 
-  not_paid : {A B : Type 0} (n left : ℕ) (a : A) (f : A → Work B) → left < n → (pay n a >>= f) left ≡ Stopped Over
-  not_paid {B} n left a f h = ap (λ b. then_do {B = B} (cond b (Stopped Over) (Gave a (left - n) (Rule ∷ []))) f) (let e : nat_lt left n ≡ true = grind (arith, nat_tests) in e)
+  not_paid : {A B : Type 0} (n left : ℕ) (a : A) (f : A → Work B) → left < n → (pay n a >>= f) left ≡ Stopped Over []
+  not_paid {B} n left a f h = ap (λ b. then_do {B = B} (cond b (Stopped Over []) (Gave a (left - n) (Rule ∷ []))) f) (let e : nat_lt left n ≡ true = grind (arith, nat_tests) in e)
 
   predefined_paid : (t one : Token) (ps : List Piece) (left : ℕ) → 2 ≤ left
       → (note (takes MacroName t) one >>= λ x. pay 2 x >>= λ y. expand table (current ps) >>= λ out. give (y ∷ out)) left
@@ -150,7 +150,7 @@ module _ (table : Table) (law : FollowsTheRules) where
       ∙ gives_inner ws w (made t kind text t.space []) (behind ps) (predefined_events t) (expand table (current ps) (left - 2))
 
   pub predefined_over : (ws : List Waiting) (t : Token) (kind : PpKind) (text : Text) (ps : List Piece) (left : ℕ) → use_of table t (current ps) ≡ Predefined kind text → left < 2
-      → goes_on table ws (Stands t ∷ ps) left ≡ Stopped Over
+      → goes_on table ws (Stands t ∷ ps) left ≡ Stopped Over (takes MacroName t ++ [])
   predefined_over ws t kind text ps left e h =
       at_head ws t ps (Predefined kind text) left e
       ∙ ap (λ r. then_do (after (takes MacroName t) r) (then_goes ws (behind ps))) (not_paid 2 left (made t kind text t.space []) (λ y. expand table (current ps) >>= λ out. give (y ∷ out)) h)

@@ -16,6 +16,7 @@ pub mod Substitutes
 pub mod Headings
 pub mod Going
 pub mod Entering
+pub mod Wholes
 pub mod Closes
 pub mod PartedLists
 pub mod Turning

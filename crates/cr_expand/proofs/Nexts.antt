@@ -1,5 +1,5 @@
 -- What comes next, by the head.
-use Rattle.std.proofs.Common.{◌≡◌, ℕ, List, [], ◌∷◌, sym, ap, subst, ◌∙◌, Some, Bor}
+use Rattle.std.proofs.Common.{◌≡◌, ℕ, Bool, List, [], ◌∷◌, refl, sym, ap, subst, ◌∙◌, Some, None, Bor, ◌<◌, ◌^◌}
 use Rattle.cr_base.specs.declared.token.Place.{Place}
 use Rattle.cr_macros.specs.declared.macros.Macro.{Macro}
 use Rattle.cr_macros.specs.declared.words.Predefined.{Predefined as PredefinedMacro}
@@ -39,11 +39,11 @@ module _ (names : List Text) (sets : Sets) (macros : Macros) (file : Text) (more
   next_object (slot.Token x ∷ slots) h m k = (used_at (slot.Token x ∷ slots) h x _ k.1.0 k.0, ap (λ y. macro_named y.token.text macros) k.1.0 ∙ k.1.1)
 
   pub next_call : (slots : List Slot) (h : Held) (m : Bor Macro) (count n : ℕ) → IsNext names sets macros file slots more (turn.Call h m count n)
-      → IsCallUse names sets slots more (use_at h) h m.now count n × (macro_named h.token.text macros ≡ Some m.now)
+      → IsCallUse names sets slots more (use_at h) h m.now count n × (macro_named h.token.text macros ≡ Some m.now) × (count < 2 ^ 63)
   next_call [] h m count n k = absurd (let e = k.slots_are in let q : ⊥ = cc in q)
   next_call (slot.End ∷ slots) h m count n k = absurd (let e = k.slots_are in let q : ⊥ = cc in q)
   next_call (slot.Token x ∷ slots) h m count n k =
-      (subst (λ y. IsCallUse names sets (slot.Token x ∷ slots) more (use_at y) h m.now count n) (sym k.1.0) k.0, ap (λ y. macro_named y.token.text macros) k.1.0 ∙ k.1.1)
+      (subst (λ y. IsCallUse names sets (slot.Token x ∷ slots) more (use_at y) h m.now count n) (sym k.1.0) k.0, ap (λ y. macro_named y.token.text macros) k.1.0 ∙ k.1.1, k.1.2)
 
   pub next_end : (slots : List Slot) → IsNext names sets macros file slots more turn.ArgumentEnd → (rest : List Slot) × (slots ≡ slot.End ∷ rest)
   next_end [] k = k

@@ -14,8 +14,14 @@ use Rattle.cr_macros.specs.Expansion.{into_first, parted}
 use Rattle.cr_expand.specs.HideSets.{Sets}
 use Rattle.cr_expand.specs.Held.{held, all_held, all_args}
 use Rattle.cr_expand.specs.Slots.{tokens, ended}
-use Rattle.cr_expand.specs.Calls.{part_at, IsTokenAt, IsCallAt, IsAmong, ArePartedAt}
+use Rattle.cr_expand.specs.Calls.{part_at, IsTokenAt, IsCallAt, IsAmong, ArePartedAt, AreKeptAt}
+use Rattle.cr_expand.specs.Wanted.{kept, all_kept, kept_more}
 use Rattle.cr_expand.specs.Partings.{lists_of, IsTaken}
+use Rattle.cr_expand.proofs.Wholes.{kept_none, kept_one_more, all_kept_last, length_all_kept}
+
+length_map : {A B : Type 0} (f : A → B) (xs : List A) → length (map f xs) ≡ length xs
+length_map f [] = refl
+length_map f (x ∷ xs) = ap suc (length_map f xs)
 
 -- tokens at the front of the first list
 abbrev pub onto : List Token → Args → Args
@@ -220,20 +226,44 @@ pub within_here : (names : List Text) (n : ℕ) (initial slots : List Slot) (clo
 within_here names n initial slots close i lists list commas depth (a, b, end, inside, rest, e, f) le k =
     here_within names n slots i lists list commas depth a b end inside rest close f le (k a b end inside rest e f)
 
-pub parted_more : (names : List Text) (n : ℕ) (initial slots slots2 : List Slot) (close i : ℕ) (old new : Parting) (parts : Bool) (h : Held)
-    → i < close → slice_get slots i ≡ Some (slot.Token h) → IsTaken names h old new parts → slots2 ≡ (if parts then set slots i slot.End else slots)
-    → IsPartedTo names n initial slots close i (lists_of old) old.list.items old.commas old.depth
-    → IsPartedTo names n initial slots2 close (i + 1) (lists_of new) new.list.items new.commas new.depth
-parted_more names n initial slots slots2 close i old new true h lt g t e k = λ a b end inside rest x f.
-    rw (e, t.1, t.2, t.3, t.4) (here_parts names n slots i (lists_of old) old.list.items old.commas old.depth a b end inside rest close f h lt g t.0 (k a b end inside rest x f))
-parted_more names n initial slots slots2 close i old new false h lt g t e k = λ a b end inside rest x f.
-    rw (e, t.1, t.2, t.3) (here_stays names n slots i (lists_of old) old.list.items old.commas old.depth a b end inside rest close f h new.depth lt g t.0 (k a b end inside rest x f))
+-- The same, where of the lists what is wanted is kept.
+abbrev pub IsKeptTo : List Text → ℕ → (ℕ → Bool) → List Slot → List Slot → ℕ → ℕ → List (List Held) → List Held → ℕ → ℕ → Type 0
+IsKeptTo names n whole initial slots close i lists list commas depth =
+    (all : List (List Held)) × (last : List Held) × IsPartedTo names n initial slots close i all last commas depth × (lists ≡ all_kept whole 0 all) × (list ≡ kept (whole (length all)) last)
+
+pub kept_first : (names : List Text) (n : ℕ) (whole : ℕ → Bool) (slots : List Slot) (close : ℕ) → IsKeptTo names n whole slots slots close 2 [] [] n 0
+kept_first names n whole slots close = ([], [], parted_first names n slots close, refl, sym (kept_none (whole 0)))
+
+length_lists : (p : Parting) (whole : ℕ → Bool) (all : List (List Held)) → lists_of p ≡ all_kept whole 0 all → length p.lists.items ≡ length all
+length_lists p whole all e = sym (length_map (λ v. v.items) p.lists.items) ∙ ap length e ∙ length_all_kept whole 0 all
+
+pub parted_more : (names : List Text) (n : ℕ) (whole : ℕ → Bool) (initial slots slots2 : List Slot) (close i : ℕ) (old new : Parting) (parts : Bool) (h : Held)
+    → i < close → slice_get slots i ≡ Some (slot.Token h) → IsTaken names whole h old new parts → slots2 ≡ (if parts then set slots i slot.End else slots)
+    → IsKeptTo names n whole initial slots close i (lists_of old) old.list.items old.commas old.depth
+    → IsKeptTo names n whole initial slots2 close (i + 1) (lists_of new) new.list.items new.commas new.depth
+parted_more names n whole initial slots slots2 close i old new true h lt g t e (all, last, k, p, q) = (
+  all ++ last ∷ [],
+  [],
+  (λ a b end inside rest x f. rw (e, t.3, t.4) (here_parts names n slots i all last old.commas old.depth a b end inside rest close f h lt g t.0 (k a b end inside rest x f))),
+  t.1 ∙ ap (λ l. l ++ old.list.items ∷ []) p ∙ ap (λ l. all_kept whole 0 all ++ l ∷ []) q ∙ sym (all_kept_last whole all last),
+  t.2 ∙ sym (kept_none (whole (length (all ++ last ∷ [])))),
+)
+parted_more names n whole initial slots slots2 close i old new false h lt g t e (all, last, k, p, q) = (
+  all,
+  last ++ h ∷ [],
+  (λ a b end inside rest x f. rw (e, t.3) (here_stays names n slots i all last old.commas old.depth a b end inside rest close f h new.depth lt g t.0 (k a b end inside rest x f))),
+  t.1 ∙ p,
+  t.2 ∙ ap (λ m. kept_more (whole m) old.list.items h) (length_lists old whole all p) ∙ ap (λ l. kept_more (whole (length all)) l h) q ∙ kept_one_more (whole (length all)) last h,
+)
 
 pub call_place : (initial : List Slot) (close : ℕ) → IsCallAt initial close → 2 ≤ close
 call_place initial close (a, b, end, inside, rest, e, f) = omega arith
 
-pub parted_ends : (names : List Text) (n : ℕ) (initial slots slots2 : List Slot) (close i : ℕ) (p : Parting) (lists : List (List Held)) → i ≡ close → slots2 ≡ set slots close slot.End → lists ≡ lists_of p ++ p.list.items ∷ []
-    → IsPartedTo names n initial slots close i (lists_of p) p.list.items p.commas p.depth
-    → (a b end : Slot) (inside : List Held) (rest : List Slot) → initial ≡ a ∷ b ∷ (tokens inside ++ end ∷ rest) → close ≡ 2 + length inside → ArePartedAt names n a b inside rest lists slots2
-parted_ends names n initial slots slots2 close i p lists c e g k a b end inside rest x f =
-    rw (e, g, sym c) (here_ends names n slots i (lists_of p) p.list.items p.commas p.depth a b end inside rest close f c (k a b end inside rest x f))
+pub parted_ends : (names : List Text) (n : ℕ) (whole : ℕ → Bool) (initial slots slots2 : List Slot) (close i : ℕ) (p : Parting) (lists : List (List Held)) → i ≡ close → slots2 ≡ set slots close slot.End → lists ≡ lists_of p ++ p.list.items ∷ []
+    → IsKeptTo names n whole initial slots close i (lists_of p) p.list.items p.commas p.depth
+    → (a b end : Slot) (inside : List Held) (rest : List Slot) → initial ≡ a ∷ b ∷ (tokens inside ++ end ∷ rest) → close ≡ 2 + length inside → AreKeptAt names n whole a b inside rest lists slots2
+parted_ends names n whole initial slots slots2 close i p lists c e g (all, last, k, u, v) a b end inside rest x f = (
+  all ++ last ∷ [],
+  rw (e, sym c) (here_ends names n slots i all last p.commas p.depth a b end inside rest close f c (k a b end inside rest x f)),
+  g ∙ ap (λ l. l ++ p.list.items ∷ []) u ∙ ap (λ l. all_kept whole 0 all ++ l ∷ []) v ∙ sym (all_kept_last whole all last),
+)

@@ -23,10 +23,10 @@ use Rattle.cr_expand.specs.Running.{put_for}
 
 module _ (w : Watch) (s0 s1 : List Seen) (value : List Token) (left : ℕ) where
   paid : (n : ℕ) → n ≤ left → pay n value left ≡ Gave value (left - n) (Rule ∷ [])
-  paid n h = ap (λ b. cond b (Stopped Over) (Gave value (left - n) (Rule ∷ []))) (let e : nat_lt left n ≡ false = grind (arith, nat_tests) in e)
+  paid n h = ap (λ b. cond b (Stopped Over []) (Gave value (left - n) (Rule ∷ []))) (let e : nat_lt left n ≡ false = grind (arith, nat_tests) in e)
 
-  not_paid : (n : ℕ) → left < n → pay n value left ≡ Stopped Over
-  not_paid n h = ap (λ b. cond b (Stopped Over) (Gave value (left - n) (Rule ∷ []))) (let e : nat_lt left n ≡ true = grind (arith, nat_tests) in e)
+  not_paid : (n : ℕ) → left < n → pay n value left ≡ Stopped Over []
+  not_paid n h = ap (λ b. cond b (Stopped Over []) (Gave value (left - n) (Rule ∷ []))) (let e : nat_lt left n ≡ true = grind (arith, nat_tests) in e)
 
   with_rule : (events : List Event) → s1 ≡ s0 ++ noted w events → s1 ≡ s0 ++ noted w (events ++ Rule ∷ [])
   with_rule events e = e ∙ ap (λ l. s0 ++ l) (sym (noted_append w events (Rule ∷ []) ∙ append-nil (noted w events)))
@@ -37,15 +37,14 @@ module _ (w : Watch) (s0 s1 : List Seen) (value : List Token) (left : ℕ) where
     events ++ Rule ∷ [],
     ap (λ x. after events (put_in x l)) h.0 ∙ ap (λ x. after events (put_in value x)) h.1 ∙ ap (after events) (paid (1 + length value) k),
     with_rule events h.2,
-    let u = uses_append events (Rule ∷ []) in omega (arith, u, q),
   )
-  gives (Stopped cause) h q k = absurd h
+  gives (Stopped cause stopped) h k = absurd h
 
   pub faults_over : (r : Answer (List Token)) → Tells w s0 s1 r value left → left < 1 + length value → Faults (then_do r (λ ts. put_in ts)) fault.LimitMacros
   faults_over (Gave a l events) h k =
-      let e : then_do (Gave a l events) (λ ts. put_in ts) ≡ Stopped Over = ap (λ x. after events (put_in x l)) h.0 ∙ ap (λ x. after events (put_in value x)) h.1 ∙ ap (after events) (not_paid (1 + length value) k) in
+      let e : then_do (Gave a l events) (λ ts. put_in ts) ≡ Stopped Over (events ++ []) = ap (λ x. after events (put_in x l)) h.0 ∙ ap (λ x. after events (put_in value x)) h.1 ∙ ap (after events) (not_paid (1 + length value) k) in
       rw e (inl refl)
-  faults_over (Stopped cause) h k = absurd h
+  faults_over (Stopped cause stopped) h k = absurd h
 
 pub length_held : (names : List Text) (sets : Sets) (hs : List Held) → length (all_held names sets hs) ≡ length hs
 length_held names sets [] = refl

@@ -20,11 +20,11 @@ use Rattle.cr_expand.proofs.Sets.{grows_same, grows_then}
 
 leads_nothing : (r : Answer (List Token)) → r ≡ leads [] [] r
 leads_nothing (Gave ts left events) = refl
-leads_nothing (Stopped cause) = refl
+leads_nothing (Stopped cause stopped) = refl
 
 leads_leads : (a b : List Token) (x y : List Event) (r : Answer (List Token)) → leads a x (leads b y r) ≡ leads (a ++ b) (x ++ y) r
 leads_leads a b x y (Gave ts left events) = ap (λ l. Gave l left (x ++ (y ++ events))) (sym (append_assoc a b ts)) ∙ ap (Gave (a ++ b ++ ts) left) (sym (append_assoc x y events))
-leads_leads a b x y (Stopped cause) = refl
+leads_leads a b x y (Stopped cause stopped) = ap (Stopped cause) (sym (append_assoc x y stopped))
 
 module _ (macros : Macros) (names : List Text) (first : Expander) (watched : IsNamed names first.machine.notes.from × IsNamed names first.machine.notes.to) where
   -- what was given so far, where more comes

@@ -13,7 +13,7 @@ tells_after w s0 s1 s2 events (Gave a left more) v l e h = (
   h.1,
   h.2 ∙ ap (λ s. s ++ noted w more) e ∙ append_assoc s0 (noted w events) (noted w more) ∙ ap (λ s. s0 ++ s) (sym (noted_append w events more)),
 )
-tells_after w s0 s1 s2 events (Stopped cause) v l e h = h
+tells_after w s0 s1 s2 events (Stopped cause stopped) v l e h = h
 
 pub tells_then : {A B : Type 0} (w : Watch) (s0 s1 s2 : List Seen) (r : Answer A) (f : A → Work B) (a : A) (b : B) (l m : ℕ) → Tells w s0 s1 r a l → Tells w s1 s2 (f a l) b m → Tells w s0 s2 (then_do r f) b m
 tells_then w s0 s1 s2 (Gave x left events) f a b l m h k =
@@ -21,23 +21,23 @@ tells_then w s0 s1 s2 (Gave x left events) f a b l m h k =
       subst2 : {A B : Type 0} (w : Watch) (s0 s1 s2 : List Seen) (events : List Event) (f : A → Work B) (a x : A) (b : B) (l left m : ℕ) → x ≡ a → left ≡ l → s1 ≡ s0 ++ noted w events → Tells w s1 s2 (f a l) b m → Tells w s0 s2 (after events (f x left)) b m
       subst2 w s0 s1 s2 events f a x b l left m e g n k =
           tells_after w s0 s1 s2 events (f x left) b m n (rw (e, g) k)
-tells_then w s0 s1 s2 (Stopped cause) f a b l m h k = absurd h
+tells_then w s0 s1 s2 (Stopped cause stopped) f a b l m h k = absurd h
 
 faults_after : {A : Type 0} (events : List Event) (r : Answer A) (e : ExpandFault) → Faults r e → Faults (after events r) e
 faults_after events (Gave a left more) e h = h
-faults_after events (Stopped cause) e h = h
+faults_after events (Stopped cause stopped) e h = h
 
 pub no_memory : {A : Type 0} (r : Answer A) → Faults r fault.OutOfMemory
 no_memory (Gave a left events) = refl
-no_memory (Stopped cause) = inr refl
+no_memory (Stopped cause stopped) = inr refl
 
 pub faults_first : {A B : Type 0} (r : Answer A) (f : A → Work B) (e : ExpandFault) → Faults r e → Faults (then_do r f) e
 faults_first (Gave a left events) f e h = rw h (no_memory (after events (f a left)))
-faults_first (Stopped cause) f e h = h
+faults_first (Stopped cause stopped) f e h = h
 
 pub faults_then : {A B : Type 0} (w : Watch) (s0 s1 : List Seen) (r : Answer A) (f : A → Work B) (a : A) (l : ℕ) (e : ExpandFault) → Tells w s0 s1 r a l → Faults (f a l) e → Faults (then_do r f) e
 faults_then w s0 s1 (Gave x left events) f a l e h k = faults_after events (f x left) e (rw (h.0, h.1) k)
-faults_then w s0 s1 (Stopped cause) f a l e h k = absurd h
+faults_then w s0 s1 (Stopped cause stopped) f a l e h k = absurd h
 
 pub does_then : {A B : Type 0} (w : Watch) (s0 s1 s2 : List Seen) (m : Work A) (f : A → Work B) (a : A) (b : B) → Does w s0 s1 m a → Does w s1 s2 (f a) b → Does w s0 s2 (m >>= f) b
 does_then w s0 s1 s2 m f a b h k = record { at = λ left. tells_then w s0 s1 s2 (m left) f a b left left (h.at left) (k.at left) }

@@ -11,6 +11,7 @@ use Rattle.cr_macros.specs.Expansion.{to_close, parted}
 use Rattle.cr_expand.specs.HideSets.{Sets}
 use Rattle.cr_expand.specs.Held.{held, all_held, all_args}
 use Rattle.cr_expand.specs.Slots.{tokens, ended}
+use Rattle.cr_expand.specs.Wanted.{all_kept}
 
 abbrev pub one_less : ℕ → Option ℕ
 one_less zero = None
@@ -56,3 +57,8 @@ IsAmong inside h = (k : ℕ) × (slice_get inside k ≡ Some h)
 abbrev pub ArePartedAt : List Text → ℕ → Slot → Slot → List Held → List Slot → List (List Held) → List Slot → Type 0
 ArePartedAt names n a b inside rest lists slots =
     (slots ≡ a ∷ b ∷ (ended lists ++ rest)) × ((sets : Sets) → all_args names sets lists ≡ parted n 0 (all_held names sets inside)) × All (All (IsAmong inside)) lists × (length (ended lists) ≡ suc (length inside))
+
+-- They are parted, and of each list what is wanted is kept.
+abbrev pub AreKeptAt : List Text → ℕ → (ℕ → Bool) → Slot → Slot → List Held → List Slot → List (List Held) → List Slot → Type 0
+AreKeptAt names n whole a b inside rest lists slots =
+    (all : List (List Held)) × ArePartedAt names n a b inside rest all slots × (lists ≡ all_kept whole 0 all)

@@ -59,7 +59,7 @@ noted w = flat_map (noted_one w)
 -- The work gave this value and left this much work, and its events are noted behind those before.
 abbrev pub Tells : {A : Type 0} → Watch → List Seen → List Seen → Answer A → A → ℕ → Type 0
 Tells w before now (Gave a left events) value rest = (a ≡ value) × (left ≡ rest) × (now ≡ before ++ noted w events)
-Tells w before now (Stopped cause) value rest = ⊥
+Tells w before now (Stopped cause stopped) value rest = ⊥
 
 -- The cause is what the fault tells.
 abbrev pub IsCause : Cause → ExpandFault → Type 0
@@ -71,7 +71,7 @@ IsCause Over e = e ≡ fault.LimitMacros
 -- The work stopped by the cause that the fault tells, or there was no memory.
 abbrev pub Faults : {A : Type 0} → Answer A → ExpandFault → Type 0
 Faults (Gave a left events) e = e ≡ fault.OutOfMemory
-Faults (Stopped cause) e = IsCause cause e ⊎ (e ≡ fault.OutOfMemory)
+Faults (Stopped cause stopped) e = IsCause cause e ⊎ (e ≡ fault.OutOfMemory)
 
 -- The work gave this value, and its events are noted behind those before, whatever work is left, which stays.
 pub record Does {A : Type 0} (w : Watch) (before now : List Seen) (m : Work A) (value : A) : Type 0 where

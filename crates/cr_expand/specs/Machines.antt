@@ -26,7 +26,7 @@ use Rattle.cr_expand.specs.Held.{held, all_held, all_args, hidden, IsKnown, AreK
 use Rattle.cr_expand.specs.Frames.{Call}
 use Rattle.cr_expand.specs.Running.{Waiting, current, before, goes_on, leads, put_for, needs_more}
 use Rattle.cr_expand.specs.Slots.{pieces, tokens, ends, ended, begun, AreSlotsKnown}
-use Rattle.cr_expand.specs.Wanted.{is_wanted}
+use Rattle.cr_expand.specs.Wanted.{is_wanted, is_whole, all_kept}
 use Rattle.cr_expand.specs.Calls.{IsAmong}
 
 -- what the name of a macro means; that of no macro has no body
@@ -151,14 +151,16 @@ AreArguments args lists = (args ≡ lists) ⊎ ((args ≡ lists ++ [] ∷ []) �
 -- A call is entered.
 pub record IsEntered (names : List Text) (old now : Machine) (h : Held) (m : Macro) (params : List Name) (inside : List Held) (closes : Held) (rest : List Slot) : Type 0 where
   pub lists : List (List Held)
+  pub all : List (List Held)
   pub call : Call
   pub frames : now.frames.items ≡ old.frames.items ++ call ∷ []
   pub name : call.name ≡ h
   pub done : call.done ≡ []
   pub out : call.out ≡ []
   pub count : length lists ≡ suc call.more
-  pub raw : AreArguments call.raw lists
-  pub args : arguments (map (text_of names) params) m.variadic (all_held names old.sets inside) ≡ Some (all_args names old.sets call.raw)
+  pub all_are : AreArguments all lists
+  pub args : arguments (map (text_of names) params) m.variadic (all_held names old.sets inside) ≡ Some (all_args names old.sets all)
+  pub raw : call.raw ≡ all_kept (is_whole (macro_text names m)) 0 all
   pub among : All (All (IsAmong inside)) lists
   pub size : length (ended lists) ≡ suc (length inside)
   pub hide : hidden names now.sets call.hide ≡ with_name (text_of names h.token.text) (both (hidden names old.sets h.hide.0) (hidden names old.sets closes.hide.0))
@@ -189,13 +191,16 @@ IsGoodMacro names m = IsMacroKnown names m × (length m.body ≤ 33554432)
 pub record AreMacros (names : List Text) (macros : Macros) : Type 0 where
   pub known : (n : Name) (m : Macro) → macro_named n macros ≡ Some m → IsNamed names n × IsGoodMacro names m
 
--- The arguments of a call, as they are, and how many lists come behind the first.
-pub record AreTaken (names : List Text) (now : List Slot) (m : Macro) (params : List Name) (a b : Slot) (inside : List Held) (rest : List Slot) (raw : List (List Held)) (more : ℕ) : Type 0 where
+-- The arguments of a call, as they are, of which what is wanted is kept, and how many lists come behind the first.
+pub record AreTaken (names : List Text) (now : List Slot) (m : Macro) (params : List Name) (a b : Slot) (inside : List Held) (rest : List Slot) (whole : ℕ → Bool) (raw : List (List Held)) (more : ℕ) : Type 0 where
   pub lists : List (List Held)
+  pub all : List (List Held)
   pub slots : now ≡ a ∷ b ∷ (ended lists ++ rest)
   pub count : length lists ≡ suc more
-  pub raw_are : AreArguments raw lists
-  pub args : (sets : Sets) → arguments (map (text_of names) params) m.variadic (all_held names sets inside) ≡ Some (all_args names sets raw)
+  pub all_are : AreArguments all lists
+  pub args : (sets : Sets) → arguments (map (text_of names) params) m.variadic (all_held names sets inside) ≡ Some (all_args names sets all)
+  pub raw_are : raw ≡ all_kept whole 0 all
+  pub few : (length all ≤ length params + 1) × (more ≤ length params)
   pub among : All (All (IsAmong inside)) lists
   pub size : length (ended lists) ≡ suc (length inside)
 

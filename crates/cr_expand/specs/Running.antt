@@ -70,7 +70,7 @@ goes_on table (w ∷ ws) ps = expand table (current ps) >>= resumes table (goes_
 -- an answer that comes behind these tokens and events
 abbrev pub leads : List Token → List Event → Answer (List Token) → Answer (List Token)
 leads out events (Gave ts left more) = Gave (out ++ ts) left (events ++ more)
-leads out events (Stopped cause) = Stopped cause
+leads out events (Stopped cause more) = Stopped cause (events ++ more)
 
 -- the use is that of a call without its `)`
 abbrev pub is_open : Use → Bool

@@ -1,5 +1,5 @@
 -- What comes next in an expansion, with names and hide sets by number.
-use Rattle.std.specs.Prelude.{◌≡◌, ℕ, ◌+◌, Bool, true, false, List, [], ◌∷◌, ◌++◌, length, map, Some}
+use Rattle.std.specs.Prelude.{◌≡◌, ℕ, ◌+◌, ◌<◌, ◌^◌, Bool, true, false, List, [], ◌∷◌, ◌++◌, length, map, Some}
 use Rattle.cr_base.specs.declared.token.Name.{Name}
 use Rattle.cr_macros.specs.declared.macros.Macro.{Macro}
 use Rattle.cr_expand.specs.declared.held.Held.{Held}
@@ -50,7 +50,7 @@ IsTurn names sets file slots more use_before (turn.Object h m) = IsUsed names se
 IsTurn names sets file slots more use_before (turn.Call h m count n) = IsCallUse names sets slots more use_before h m.now count n
 IsTurn names sets file slots more use_before (turn.Unclosed site) = (h : Held) × IsUsed names sets slots more use_before h (Wrong (OpenCall site))
 
--- The token is at the head, and the macro is the one of its name.
+-- The token is at the head, and the macro is the one of its name. Its parameters are no more than memory holds.
 abbrev pub IsTurnOf : Macros → Held → Turn → Type 0
 IsTurnOf macros head turn.End = ⊥
 IsTurnOf macros head turn.Hungry = Unit {0}
@@ -58,7 +58,7 @@ IsTurnOf macros head turn.ArgumentEnd = ⊥
 IsTurnOf macros head (turn.Stays h) = h ≡ head
 IsTurnOf macros head (turn.Predefined h p) = h ≡ head
 IsTurnOf macros head (turn.Object h m) = (h ≡ head) × (macro_named head.token.text macros ≡ Some m.now)
-IsTurnOf macros head (turn.Call h m count n) = (h ≡ head) × (macro_named head.token.text macros ≡ Some m.now)
+IsTurnOf macros head (turn.Call h m count n) = (h ≡ head) × (macro_named head.token.text macros ≡ Some m.now) × (count < 2 ^ 63)
 IsTurnOf macros head (turn.Unclosed site) = Unit {0}
 
 -- What comes next by the use of the head.

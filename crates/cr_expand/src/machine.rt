@@ -16,6 +16,7 @@ ghost use Rattle.cr_expand.specs.Held.{all_held};
 ghost use Rattle.cr_expand.specs.Slots.{tokens, AreSlotsKnown};
 ghost use Rattle.cr_expand.specs.Calls.{IsCallAt};
 ghost use Rattle.cr_expand.specs.HideSets.{Grows};
+ghost use Rattle.cr_expand.specs.Wanted.{is_marked_whole};
 ghost use Rattle.cr_expand.specs.Machines.{IsGiven, IsPut, IsSameRun, IsSameElsewhere, IsPredefinedUse, IsClosedAt, IsEntered, IsCallHeld, IsMachine, IsArgumentEnd, IsArgumentFault, BeginsWithEnd, AreMacros, put_for_call, AreTaken, IsMiscounted, IsTurnStep, IsTurnWanted, IsStep, IsWantedAt, still};
 
 use crate::frame::Frame;
@@ -28,7 +29,7 @@ use crate::predefined::predefined_token;
 use crate::slot::{Slot, begin, put_front};
 use crate::subst::subst;
 use crate::turn::{Turn, turn_of};
-use crate::wanted::{counted, wanted};
+use crate::wanted::{Needs, counted, needs_of};
 use cr_base::{Name, NameTable, PpTok, Role};
 use cr_macros::{ExpandFault, Macro, MacroTable, Predefined, expansion_follows_the_rules};
 use std::alloc::Global;
@@ -202,15 +203,16 @@ impl Machine {
         m: &Macro,
         count: usize,
         close: usize,
+        needs: &Needs,
     ) -> Result<(Vec<Vec<Held>>, usize), ExpandFault>
         requires { IsCallAt self.old.slots.items close }
-        ensures taken { (a b end : TheSlot) (inside : List TheHeld) (rest : List TheSlot) (params : List TheName) → self.old.slots.items ≡ a ∷ b ∷ (tokens inside ++ end ∷ rest) → close ≡ 2 + length inside → m.now.params ≡ Some params → count ≡ length params → IfOk result (λ r. AreTaken names.now self.new.slots.items m.now params a b inside rest (map (λ v. v.items) r.0.items) r.1) }
+        ensures taken { (a b end : TheSlot) (inside : List TheHeld) (rest : List TheSlot) (params : List TheName) → self.old.slots.items ≡ a ∷ b ∷ (tokens inside ++ end ∷ rest) → close ≡ 2 + length inside → m.now.params ≡ Some params → count ≡ length params → IfOk result (λ r. AreTaken names.now self.new.slots.items m.now params a b inside rest (is_marked_whole needs.now) (map (λ v. v.items) r.0.items) r.1) }
         ensures faults { (a b end : TheSlot) (inside : List TheHeld) (rest : List TheSlot) (params : List TheName) → self.old.slots.items ≡ a ∷ b ∷ (tokens inside ++ end ∷ rest) → close ≡ 2 + length inside → m.now.params ≡ Some params → count ≡ length params → IfErr result (λ e. IsMiscounted names.now m.now params inside h e) }
         ensures small { IfOk result (λ r. r.1 < 2 ^ 63) }
         ensures same { IsSameElsewhere self.old self.new × (self.new.frames.items ≡ self.old.frames.items) }
     {
         let commas = most_commas(m.variadic, count, close);
-        let lists = part(self.alloc, names, &mut self.slots, close, commas)?;
+        let lists = part(self.alloc, names, &mut self.slots, close, commas, needs)?;
         let more = lists.len() - 1;
         match counted(self.alloc, count, m.variadic, lists)? {
             None => Err(ExpandFault::ArgCount(h.token.site)),
@@ -228,6 +230,7 @@ impl Machine {
         close: usize,
     ) -> Result<(), ExpandFault>
         requires call { IsClosedAt self.old.slots.items close }
+        requires count { count < 2 ^ 63 }
         requires tables { AreTables names.now self.old.sets }
         requires slots { AreSlotsKnown names.now self.old.sets self.old.slots.items }
         requires name { IsKnown names.now self.old.sets h }
@@ -237,11 +240,12 @@ impl Machine {
         ensures same { OnOk result (IsSameRun self.old self.new × (self.new.notes.seen.items ≡ self.old.notes.seen.items) × (self.new.used ≡ self.old.used)) }
     {
         let end = token_at(&self.slots, close);
-        let (raw, more) = self.take_arguments(names, h, m, count, close)?;
+        let needs = needs_of(self.alloc, names, m, count + 1)?;
+        let (raw, more) = self.take_arguments(names, h, m, count, close, &needs)?;
         let sets = &mut self.sets;
         let hide = hidden_by_call(self.alloc, names, sets, h.hide, end.hide, h.token.text)?;
-        let expands = wanted(self.alloc, names, m, more + 1)?;
-        let frame = Frame::new(self.alloc, h, hide, raw, more, expands);
+        let Needs { expanded, .. } = needs;
+        let frame = Frame::new(self.alloc, h, hide, raw, more, expanded);
         let _ = self.slots.pop_front();
         let _ = self.slots.pop_front();
         begin(&mut self.slots, frame.is_wanted());

@@ -1,15 +1,17 @@
 //! A call's arguments, parted by its commas.
-ghost use Rattle.std.specs.Prelude.{◌≡◌, ◌≤◌, ◌<◌, ◌+◌, ◌^◌, ◌++◌, ◌∷◌, [], length, List, map, IfOk, MatchOption, slice_get, slice_set, if◌then◌else◌};
+ghost use Rattle.std.specs.Prelude.{◌≡◌, ◌≤◌, ◌<◌, ◌+◌, ◌^◌, ◌++◌, ◌∷◌, [], length, List, map, IfOk, OnOk, MatchOption, slice_get, slice_set, if◌then◌else◌};
 ghost use Rattle.cr_expand.specs.HideSets.{Sets};
 ghost use Rattle.cr_expand.specs.Held.{held};
 ghost use Rattle.cr_expand.specs.Slots.{tokens};
-ghost use Rattle.cr_expand.specs.Calls.{part_at, IsTokenAt, IsCallAt, ArePartedAt};
+ghost use Rattle.cr_expand.specs.Calls.{part_at, IsTokenAt, IsCallAt, AreKeptAt};
+ghost use Rattle.cr_expand.specs.Wanted.{kept_more, is_marked_whole};
 ghost use Rattle.cr_expand.specs.Partings.{IsTaken};
 ghost use Rattle.cr_expand.specs.declared.held.Held.{Held as TheHeld};
 ghost use Rattle.cr_expand.specs.declared.slot.Slot.{Slot as TheSlot};
 
 use crate::held::Held;
 use crate::slot::Slot;
+use crate::wanted::Needs;
 use cr_base::{NameTable, OutOfMemory};
 use cr_macros::is_mark;
 use std::alloc::Global;
@@ -44,11 +46,28 @@ fn depth_behind(names: &NameTable, commas: usize, depth: usize, h: Held) -> Opti
 }
 
 impl Parting {
+    // One more token of the list that goes on, where all of it is wanted, or it has none.
+    fn keep(&mut self, needs: &Needs, h: Held) -> Result<(), OutOfMemory>
+        ensures lists { (self.new.lists.items ≡ self.old.lists.items) × (self.new.commas ≡ self.old.commas) × (self.new.depth ≡ self.old.depth) }
+        ensures list { OnOk result (self.new.list.items ≡ kept_more (is_marked_whole needs.now (length self.old.lists.items)) self.old.list.items h) }
+    {
+        if needs.is_whole(self.lists.len()) || self.list.is_empty() {
+            self.list.push(h)?;
+        }
+        Ok(())
+    }
+
     // One more token; tells whether it is a comma that parts lists.
-    fn take(&mut self, alloc: Global, names: &NameTable, h: Held) -> Result<bool, OutOfMemory>
+    fn take(
+        &mut self,
+        alloc: Global,
+        names: &NameTable,
+        needs: &Needs,
+        h: Held,
+    ) -> Result<bool, OutOfMemory>
         requires { self.old.depth ≤ 2 ^ 63 }
         ensures small { self.new.depth ≤ self.old.depth + 1 }
-        ensures taken { IfOk result (λ parts. IsTaken names.now h self.old self.new parts) }
+        ensures taken { IfOk result (λ parts. IsTaken names.now (is_marked_whole needs.now) h self.old self.new parts) }
     {
         match depth_behind(names, self.commas, self.depth, h) {
             None => {
@@ -58,7 +77,7 @@ impl Parting {
                 Ok(true)
             }
             Some(depth) => {
-                self.list.push(h)?;
+                self.keep(needs, h)?;
                 self.depth = depth;
                 Ok(false)
             }
@@ -88,16 +107,18 @@ fn end_if(slots: &mut VecDeque<Slot>, i: usize, wanted: bool)
 }
 
 /// Parts the tokens of a call, from the third slot to the `)`, by this many commas at most, and
-/// puts ends in the place of the commas and the `)`. Tells the lists.
+/// puts ends in the place of the commas and the `)`. Tells the lists, each whole where that is
+/// needed, and else its first token.
 pub fn part(
     alloc: Global,
     names: &NameTable,
     slots: &mut VecDeque<Slot>,
     close: usize,
     commas: usize,
+    needs: &Needs,
 ) -> Result<Vec<Vec<Held>>, OutOfMemory>
     requires { IsCallAt slots.old.items close }
-    ensures { (a b end : TheSlot) (inside : List TheHeld) (rest : List TheSlot) → slots.old.items ≡ a ∷ b ∷ (tokens inside ++ end ∷ rest) → close ≡ 2 + length inside → IfOk result (λ lists. ArePartedAt names.now commas a b inside rest (map (λ v. v.items) lists.items) slots.new.items) }
+    ensures { (a b end : TheSlot) (inside : List TheHeld) (rest : List TheSlot) → slots.old.items ≡ a ∷ b ∷ (tokens inside ++ end ∷ rest) → close ≡ 2 + length inside → IfOk result (λ lists. AreKeptAt names.now commas (is_marked_whole needs.now) a b inside rest (map (λ v. v.items) lists.items) slots.new.items) }
 {
     let mut parting = Parting {
         lists: Vec::new(alloc),
@@ -107,7 +128,7 @@ pub fn part(
     };
     for i in 2..close {
         let h = token_at(slots, i);
-        let parts = parting.take(alloc, names, h)?;
+        let parts = parting.take(alloc, names, needs, h)?;
         end_if(slots, i, parts);
     }
     end_if(slots, close, true);

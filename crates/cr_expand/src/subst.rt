@@ -58,8 +58,8 @@ pub fn unmarked(alloc: Global, count: usize) -> Result<Vec<bool>, OutOfMemory>
     Ok(used)
 }
 
-// Which arguments have an item that uses them.
-fn used_arguments(alloc: Global, count: usize, items: &[Item]) -> Result<Vec<bool>, OutOfMemory>
+/// Which arguments have an item that uses them.
+pub fn used_arguments(alloc: Global, count: usize, items: &[Item]) -> Result<Vec<bool>, OutOfMemory>
     ensures { (names : List Text) → IfOk result (λ used. (vec_len used ≡ count) × ((n : ℕ) → n < count → slice_index_or used.items n false ≡ list_any (spec.is_use n) (item_texts names items.now))) }
 {
     let mut used = unmarked(alloc, count)?;

@@ -1,5 +1,5 @@
 //! What comes next in an expansion.
-ghost use Rattle.std.specs.Prelude.{◌≡◌, ◌≤◌, ◌∷◌, [], List, length, map, true, codes};
+ghost use Rattle.std.specs.Prelude.{◌≡◌, ◌≤◌, ◌<◌, ◌^◌, ◌∷◌, [], List, length, map, true, codes};
 ghost use Rattle.cr_base.specs.declared.token.Name.{Name as TheName};
 ghost use Rattle.cr_macros.specs.Tokens.{Text, Token, is_mark as is_mark_text};
 ghost use Rattle.cr_macros.specs.Definition.{text_of};
@@ -51,7 +51,8 @@ fn group_turn<'a>(
     m: &'a Macro,
     count: usize,
 ) -> Turn<'a>
-    requires { 2 ≤ length slots.now.items }
+    requires slots { 2 ≤ length slots.now.items }
+    requires count { count < 2 ^ 63 }
     ensures wanting { (sets : Sets) (opens : TheHeld) (rest : List TheSlot) (params : List TheName) → slots.now.items ≡ Slot.Token h ∷ Slot.Token opens ∷ rest → is_mark_text (codes "(") (held names.now sets opens) ≡ true → IsWanting names.now sets finished slots.now.items (λ x. call_of (held names.now sets x) (macro_text names.now m.now) (map (text_of names.now) params)) result }
     ensures means { (sets : Sets) (file : Text) (opens : TheHeld) (rest : List TheSlot) (params : List TheName) (more : List Token) → slots.now.items ≡ Slot.Token h ∷ Slot.Token opens ∷ rest → is_mark_text (codes "(") (held names.now sets opens) ≡ true → m.now.params ≡ Some params → count ≡ length params → (finished ≡ true → more ≡ []) → IsTurn names.now sets file slots.now.items more (call_of (held names.now sets h) (macro_text names.now m.now) (map (text_of names.now) params)) result }
     ensures head { (macros : Macros) → macro_named h.token.text macros ≡ Some m.now → IsTurnOf macros h result }
@@ -78,6 +79,7 @@ fn call_turn<'a>(
     m: &'a Macro,
     count: usize,
 ) -> Turn<'a>
+    requires { count < 2 ^ 63 }
     ensures wanting { (sets : Sets) (rest : List TheSlot) (params : List TheName) → slots.now.items ≡ Slot.Token h ∷ rest → IsWanting names.now sets finished slots.now.items (λ x. call_of (held names.now sets x) (macro_text names.now m.now) (map (text_of names.now) params)) result }
     ensures means { (sets : Sets) (file : Text) (rest : List TheSlot) (params : List TheName) (more : List Token) → slots.now.items ≡ Slot.Token h ∷ rest → m.now.params ≡ Some params → count ≡ length params → (finished ≡ true → more ≡ []) → IsTurn names.now sets file slots.now.items more (call_of (held names.now sets h) (macro_text names.now m.now) (map (text_of names.now) params)) result }
     ensures head { (macros : Macros) → macro_named h.token.text macros ≡ Some m.now → IsTurnOf macros h result }

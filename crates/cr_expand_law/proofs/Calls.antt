@@ -6,19 +6,25 @@ use Rattle.std.proofs.lemmas.List.{map-append, length-map}
 use Rattle.std.proofs.lemmas.Slice.Eq.{bytes_eq-Decides}
 use Rattle.cr_base.specs.Names.{is_reserved}
 use Rattle.cr_base.specs.declared.token.PpKind.{PpKind}
-use Rattle.cr_macros.specs.Tokens.{Text, Token, MacroText, is_mark, is_ident, has}
+use Rattle.cr_macros.specs.Tokens.{Text, Token, MacroText, Cause, ArgCount, OpenCall, BadPaste, Over, is_mark, is_ident, has}
 use Rattle.cr_macros.specs.Substitution.{Args}
 use Rattle.cr_macros.specs.Expansion.{Table, Use, Keep, Predefined, Object, Call, Wrong, predefined, found_after, closed_by, to_close, into_first, parted, arguments, counted_call, closed_call, call_of, use_by_params, use_of_macro, use_of_name, use_of}
-use Rattle.cr_expand_law.specs.Renaming.{Renaming, renamed, all_renamed, renamed_macro, renamed_table, IsNoParameter, IsFree}
+use Rattle.cr_expand_law.specs.Renaming.{Renaming, shifted, renamed, all_renamed, renamed_macro, renamed_table, IsNoParameter, IsFree}
 use Rattle.cr_expand_law.proofs.Renamed.{mark_same}
 use Rattle.cr_expand_law.proofs.Items.{renamed_args}
+
+abbrev pub shifted_cause : Renaming → Cause → Cause
+shifted_cause r (ArgCount site) = ArgCount (r.shift site)
+shifted_cause r (OpenCall site) = OpenCall (r.shift site)
+shifted_cause r (BadPaste site) = BadPaste (r.shift site)
+shifted_cause r Over = Over
 
 abbrev pub renamed_use : Renaming → Use → Use
 renamed_use r Keep = Keep
 renamed_use r (Predefined kind text) = Predefined kind text
 renamed_use r (Object m) = Object (renamed_macro r m)
 renamed_use r (Call m args close rest) = Call (renamed_macro r m) (renamed_args r args) (renamed r close) (all_renamed r rest)
-renamed_use r (Wrong cause) = Wrong cause
+renamed_use r (Wrong cause) = Wrong (shifted_cause r cause)
 
 abbrev Found : Type 0
 Found = Option (List Token × Token × List Token)
@@ -98,41 +104,41 @@ arguments_renamed r names true inside =
       args : Args
       args = parted (length names) 0 inside
 
-args_use : (r : Renaming) (t : Token) (m : MacroText) (close : Token) (rest : List Token) (o : Option Args) → counted_call t (renamed_macro r m) (renamed r close) (all_renamed r rest) (args_found r o) ≡ renamed_use r (counted_call t m close rest o)
+args_use : (r : Renaming) (t : Token) (m : MacroText) (close : Token) (rest : List Token) (o : Option Args) → counted_call (shifted r t) (renamed_macro r m) (renamed r close) (all_renamed r rest) (args_found r o) ≡ renamed_use r (counted_call t m close rest o)
 args_use r t m close rest None = refl
 args_use r t m close rest (Some args) = refl
 
-found_use : (r : Renaming) (t : Token) (m : MacroText) (names : List Text) (o : Found) → closed_call t (renamed_macro r m) names (renamed_triple r o) ≡ renamed_use r (closed_call t m names o)
+found_use : (r : Renaming) (t : Token) (m : MacroText) (names : List Text) (o : Found) → closed_call (shifted r t) (renamed_macro r m) names (renamed_triple r o) ≡ renamed_use r (closed_call t m names o)
 found_use r t m names None = refl
 found_use r t m names (Some p) =
-    ap (counted_call t (renamed_macro r m) (renamed r p.1) (all_renamed r p.2)) (arguments_renamed r names m.variadic p.0) ∙ args_use r t m p.1 p.2 (arguments names m.variadic p.0)
+    ap (counted_call (shifted r t) (renamed_macro r m) (renamed r p.1) (all_renamed r p.2)) (arguments_renamed r names m.variadic p.0) ∙ args_use r t m p.1 p.2 (arguments names m.variadic p.0)
 
 cond_use : (r : Renaming) (b : Bool) (x y : Use) → cond b (renamed_use r x) (renamed_use r y) ≡ renamed_use r (cond b x y)
 cond_use r true x y = refl
 cond_use r false x y = refl
 
-call_same : (r : Renaming) (t : Token) (m : MacroText) (names : List Text) (rest : List Token) → call_of t (renamed_macro r m) names (all_renamed r rest) ≡ renamed_use r (call_of t m names rest)
+call_same : (r : Renaming) (t : Token) (m : MacroText) (names : List Text) (rest : List Token) → call_of (shifted r t) (renamed_macro r m) names (all_renamed r rest) ≡ renamed_use r (call_of t m names rest)
 call_same r t m names [] = refl
 call_same r t m names (u ∷ rest) =
-    ap (λ x. cond x (closed_call t (renamed_macro r m) names (to_close 0 (all_renamed r rest))) Keep) (mark_same r (codes "(") u)
-    ∙ ap (λ x. cond (is_mark (codes "(") u) (closed_call t (renamed_macro r m) names x) Keep) (close_renamed r rest 0)
+    ap (λ x. cond x (closed_call (shifted r t) (renamed_macro r m) names (to_close 0 (all_renamed r rest))) Keep) (mark_same r (codes "(") u)
+    ∙ ap (λ x. cond (is_mark (codes "(") u) (closed_call (shifted r t) (renamed_macro r m) names x) Keep) (close_renamed r rest 0)
     ∙ ap (λ x. cond (is_mark (codes "(") u) x Keep) (found_use r t m names (to_close 0 rest))
     ∙ cond_use r (is_mark (codes "(") u) (closed_call t m names (to_close 0 rest)) Keep
 
-params_same : (r : Renaming) (t : Token) (m : MacroText) (rest : List Token) (o : Option (List Text)) → use_by_params t (renamed_macro r m) (all_renamed r rest) o ≡ renamed_use r (use_by_params t m rest o)
+params_same : (r : Renaming) (t : Token) (m : MacroText) (rest : List Token) (o : Option (List Text)) → use_by_params (shifted r t) (renamed_macro r m) (all_renamed r rest) o ≡ renamed_use r (use_by_params t m rest o)
 params_same r t m rest None = refl
 params_same r t m rest (Some names) = call_same r t m names rest
 
-macro_same : (r : Renaming) (t : Token) (rest : List Token) (o : Option MacroText) → use_of_macro t (all_renamed r rest) (option_map (renamed_macro r) o) ≡ renamed_use r (use_of_macro t rest o)
+macro_same : (r : Renaming) (t : Token) (rest : List Token) (o : Option MacroText) → use_of_macro (shifted r t) (all_renamed r rest) (option_map (renamed_macro r) o) ≡ renamed_use r (use_of_macro t rest o)
 macro_same r t rest None = refl
 macro_same r t rest (Some m) = params_same r t m rest m.params
 
-name_same : (r : Renaming) (table : Table) (t : Token) (rest : List Token) (p : Option (PpKind × Text)) → use_of_name (renamed_table r table) t (all_renamed r rest) p ≡ renamed_use r (use_of_name table t rest p)
+name_same : (r : Renaming) (table : Table) (t : Token) (rest : List Token) (p : Option (PpKind × Text)) → use_of_name (renamed_table r table) (shifted r t) (all_renamed r rest) p ≡ renamed_use r (use_of_name table t rest p)
 name_same r table t rest (Some p) = refl
 name_same r table t rest None = macro_same r t rest (table.macro t.text)
 
 -- a head that isn't renamed means the same
-pub use_of_same : (r : Renaming) (table : Table) (t : Token) (rest : List Token) → use_of (renamed_table r table) t (all_renamed r rest) ≡ renamed_use r (use_of table t rest)
+pub use_of_same : (r : Renaming) (table : Table) (t : Token) (rest : List Token) → use_of (renamed_table r table) (shifted r t) (all_renamed r rest) ≡ renamed_use r (use_of table t rest)
 use_of_same r table t rest =
     ap (λ x. cond (not (is_ident t.kind) || has t.hide t.text) Keep x) (name_same r table t rest (predefined table.file t.line t.text))
     ∙ cond_use r (not (is_ident t.kind) || has t.hide t.text) Keep (use_of_name table t rest (predefined table.file t.line t.text))

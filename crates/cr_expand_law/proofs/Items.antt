@@ -7,12 +7,12 @@ use Rattle.cr_base.specs.declared.token.PpKind.{PpKind}
 use Rattle.cr_base.specs.declared.token.PpKind.TheVariants.{Str}
 use Rattle.cr_base.specs.declared.cause.Role.TheVariants.{MacroName, Stringized, Pasted, Dropped}
 use Rattle.cr_macros.specs.OneToken.{one_token, is_string}
-use Rattle.cr_macros.specs.Tokens.{Text, Token, MacroText, BadPaste, Work, ◌>>=◌, give, fail, note, takes, both, is_mark, with_names}
-use Rattle.cr_macros.specs.Substitution.{Item, Stays, Spelt, Bare, Full, CommaRest, Paste, item_by, item_at, items, body_items, only_if, next_is, next_param, with_token, pasted_rest, param, is_hash, is_paste, Args, arg_at, comma_and, Part, Is, Placemarker, Joins, parts_of, or_placemarker, or_none, paste_after, filled, all_filled, string_of, in_quotes, spelling, made, paste, pasted_as, all_pasted, is_full, is_use, with_space, dropped, placed}
+use Rattle.cr_macros.specs.Tokens.{Text, Token, MacroText, Event, BadPaste, Work, ◌>>=◌, give, fail, note, takes, both, is_mark, with_names}
+use Rattle.cr_macros.specs.Substitution.{Item, Stays, Spelt, Bare, Full, CommaRest, Paste, item_by, item_at, items, body_items, only_if, next_is, next_param, with_token, pasted_rest, param, is_hash, is_paste, Args, arg_at, comma_and, Part, Is, Placemarker, Joins, parts_of, or_placemarker, or_none, paste_after, filled, all_filled, string_of, in_quotes, spelling_of, spelling_of_rest, spelling, made, paste, pasted_as, all_pasted, is_full, is_use, with_space, dropped, placed}
 use Rattle.cr_macros.specs.Substitution
-use Rattle.cr_expand_law.specs.Renaming.{Renaming, is_renamed, renamed, all_renamed, renamed_macro, renamed_event, IsNoParameter}
+use Rattle.cr_expand_law.specs.Renaming.{Renaming, is_renamed, shifted, renamed, all_renamed, renamed_macro, renamed_event, IsNoParameter}
 use Rattle.cr_expand_law.proofs.Following.{renamed_events, Follows, Sim, harmless_left, harmless_right, sim_then, sim_give, sim_to, sim_note, Never, never_first}
-use Rattle.cr_expand_law.proofs.Renamed.{same_token, mark_same, paste_same, hash_same, space_renamed, of_string, of_paste, same_by_role, same_by_roles, all_take_renamed, same_takes, never_name}
+use Rattle.cr_expand_law.proofs.Renamed.{same_token, mark_same, paste_same, hash_same, space_renamed, of_string, of_paste, same_by_role, all_shifted, same_by_roles, all_take_renamed, same_takes, never_name}
 
 abbrev pub renamed_item : Renaming → Item → Item
 renamed_item r (Stays t) = Stays (renamed r t)
@@ -138,15 +138,27 @@ renamed_part r Joins = Joins
 abbrev renamed_parts : Renaming → List Part → List Part
 renamed_parts r = map (renamed_part r)
 
-string_sim : (r : Renaming) (name hash : Token) (arg : List Token) → Sim r (renamed r) (string_of name hash arg) (string_of name (renamed r hash) (all_renamed r arg))
+rest_shifted : (r : Renaming) (ts : List Token) → spelling_of_rest (all_shifted r ts) ≡ spelling_of_rest ts
+rest_shifted r [] = refl
+rest_shifted r (t ∷ ts) = ap (λ x. (cond t.space (32 ∷ []) [] ++ spelling_of t) ++ x) (rest_shifted r ts)
+
+spelling_shifted : (r : Renaming) (ts : List Token) → spelling (all_shifted r ts) ≡ spelling ts
+spelling_shifted r [] = refl
+spelling_shifted r (t ∷ ts) = ap (λ x. spelling_of t ++ x) (rest_shifted r ts)
+
+string_sim : (r : Renaming) (name hash : Token) (arg : List Token) → Sim r (renamed r) (string_of name hash arg) (string_of (shifted r name) (renamed r hash) (all_renamed r arg))
 string_sim r name hash arg = record { at = λ left. go left (is_string (in_quotes (spelling arg))) refl } where
+  as_string : Text → List Event → Work Token
+  as_string text events = cond (is_string (in_quotes text)) (note events (made (shifted r name) Str (in_quotes text) hash.space [])) (fail (BadPaste (r.shift name.site)))
+
   go : (left : ℕ) (b : Bool) → is_string (in_quotes (spelling arg)) ≡ b
-      → Follows r (renamed r) (cond b (note (flat_map (takes Stringized) arg) (made name Str (in_quotes (spelling arg)) hash.space [])) (fail (BadPaste name.site)) left) (string_of name (renamed r hash) (all_renamed r arg) left)
+      → Follows r (renamed r) (cond b (note (flat_map (takes Stringized) arg) (made name Str (in_quotes (spelling arg)) hash.space [])) (fail (BadPaste name.site)) left) (string_of (shifted r name) (renamed r hash) (all_renamed r arg) left)
   go left true e = λ fine.
-      let same : all_renamed r arg ≡ arg = same_by_roles r Stringized arg (of_string r) fine in
-      ap (λ x. string_of name (renamed r hash) x left) same
-      ∙ ap (λ b. cond b (note (flat_map (takes Stringized) arg) (made name Str (in_quotes (spelling arg)) hash.space [])) (fail (BadPaste name.site)) left) e
-      ∙ ap (λ x. note x (made name Str (in_quotes (spelling arg)) hash.space []) left) (sym (ap (flat_map (takes Stringized)) same) ∙ all_take_renamed r Stringized arg)
+      let same : all_renamed r arg ≡ all_shifted r arg = same_by_roles r Stringized arg (of_string r) fine in
+      ap (λ x. string_of (shifted r name) (renamed r hash) x left) same
+      ∙ ap (λ x. as_string x (flat_map (takes Stringized) (all_shifted r arg)) left) (spelling_shifted r arg)
+      ∙ ap (λ x. as_string (spelling arg) x left) (sym (ap (flat_map (takes Stringized)) same) ∙ all_take_renamed r Stringized arg)
+      ∙ ap (λ b. cond b (note (renamed_events r (flat_map (takes Stringized) arg)) (made (shifted r name) Str (in_quotes (spelling arg)) hash.space [])) (fail (BadPaste (r.shift name.site))) left) e
   go left false e = tt
 
 comma_renamed : (r : Renaming) (comma : Token) (full arg : List Token) → comma_and (renamed r comma) (all_renamed r full) (all_renamed r arg) ≡ all_renamed r (comma_and comma full arg)
@@ -164,13 +176,13 @@ placemarker_renamed r (t ∷ ts) = ap (λ ps. Is (renamed r t) ∷ ps) (parts_re
 sim_parts : (r : Renaming) (ps qs : List Part) → qs ≡ renamed_parts r ps → Sim r (renamed_parts r) (give ps) (give qs)
 sim_parts r ps qs e = record { at = λ left fine. ap (λ x. give x left) e }
 
-filled_sim : (r : Renaming) (name : Token) (raw full : Args) (item : Item) → Sim r (renamed_parts r) (filled name raw full item) (filled name (renamed_args r raw) (renamed_args r full) (renamed_item r item))
+filled_sim : (r : Renaming) (name : Token) (raw full : Args) (item : Item) → Sim r (renamed_parts r) (filled name raw full item) (filled (shifted r name) (renamed_args r raw) (renamed_args r full) (renamed_item r item))
 filled_sim r name raw full (Stays t) = sim_parts r (Is t ∷ []) (Is (renamed r t) ∷ []) refl
 filled_sim r name raw full (Spelt hash i) =
-    sim_to r (renamed_parts r) (filled name raw full (Spelt hash i)) (filled name (renamed_args r raw) (renamed_args r full) (Spelt (renamed r hash) i))
-    (string_of name (renamed r hash) (all_renamed r (arg_at raw i)) >>= λ s. give (Is s ∷ []))
-    (ap (λ x. string_of name (renamed r hash) x >>= λ s. give (Is s ∷ [])) (arg_renamed r raw i))
-    (sim_then r (renamed r) (renamed_parts r) (string_of name hash (arg_at raw i)) (string_of name (renamed r hash) (all_renamed r (arg_at raw i)))
+    sim_to r (renamed_parts r) (filled name raw full (Spelt hash i)) (filled (shifted r name) (renamed_args r raw) (renamed_args r full) (Spelt (renamed r hash) i))
+    (string_of (shifted r name) (renamed r hash) (all_renamed r (arg_at raw i)) >>= λ s. give (Is s ∷ []))
+    (ap (λ x. string_of (shifted r name) (renamed r hash) x >>= λ s. give (Is s ∷ [])) (arg_renamed r raw i))
+    (sim_then r (renamed r) (renamed_parts r) (string_of name hash (arg_at raw i)) (string_of (shifted r name) (renamed r hash) (all_renamed r (arg_at raw i)))
     (λ s. give (Is s ∷ [])) (λ s. give (Is s ∷ [])) (string_sim r name hash (arg_at raw i)) (λ s. sim_parts r (Is s ∷ []) (Is (renamed r s) ∷ []) refl))
 filled_sim r name raw full (Bare t i) =
     sim_parts r _ _ (ap or_placemarker (ap (with_space t.space) (arg_renamed r raw i) ∙ space_renamed r t.space (arg_at raw i)) ∙ placemarker_renamed r (with_space t.space (arg_at raw i)))
@@ -184,29 +196,29 @@ filled_sim r name raw full (CommaRest comma t i) =
     ∙ placemarker_renamed r (comma_and comma (with_space t.space (arg_at full i)) (arg_at raw i)))
 filled_sim r name raw full Paste = sim_give r (renamed_parts r) (Joins ∷ [])
 
-all_filled_sim : (r : Renaming) (name : Token) (raw full : Args) (its : List Item) → Sim r (renamed_parts r) (all_filled name raw full its) (all_filled name (renamed_args r raw) (renamed_args r full) (map (renamed_item r) its))
+all_filled_sim : (r : Renaming) (name : Token) (raw full : Args) (its : List Item) → Sim r (renamed_parts r) (all_filled name raw full its) (all_filled (shifted r name) (renamed_args r raw) (renamed_args r full) (map (renamed_item r) its))
 all_filled_sim r name raw full [] = sim_give r (renamed_parts r) []
 all_filled_sim r name raw full (item ∷ its) =
-    sim_then r (renamed_parts r) (renamed_parts r) (filled name raw full item) (filled name (renamed_args r raw) (renamed_args r full) (renamed_item r item))
-    (λ ps. all_filled name raw full its >>= λ more. give (ps ++ more)) (λ ps. all_filled name (renamed_args r raw) (renamed_args r full) (map (renamed_item r) its) >>= λ more. give (ps ++ more)) (filled_sim r name raw full item)
-    (λ ps. sim_then r (renamed_parts r) (renamed_parts r) (all_filled name raw full its) (all_filled name (renamed_args r raw) (renamed_args r full) (map (renamed_item r) its))
+    sim_then r (renamed_parts r) (renamed_parts r) (filled name raw full item) (filled (shifted r name) (renamed_args r raw) (renamed_args r full) (renamed_item r item))
+    (λ ps. all_filled name raw full its >>= λ more. give (ps ++ more)) (λ ps. all_filled (shifted r name) (renamed_args r raw) (renamed_args r full) (map (renamed_item r) its) >>= λ more. give (ps ++ more)) (filled_sim r name raw full item)
+    (λ ps. sim_then r (renamed_parts r) (renamed_parts r) (all_filled name raw full its) (all_filled (shifted r name) (renamed_args r raw) (renamed_args r full) (map (renamed_item r) its))
     (λ more. give (ps ++ more)) (λ more. give (renamed_parts r ps ++ more)) (all_filled_sim r name raw full its) (λ more. sim_parts r (ps ++ more) (renamed_parts r ps ++ renamed_parts r more) (sym (map-append (renamed_part r) ps more))))
 
-paste_sim : (r : Renaming) (name a b : Token) → Sim r (renamed r) (paste name a b) (paste name (renamed r a) (renamed r b))
+paste_sim : (r : Renaming) (name a b : Token) → Sim r (renamed r) (paste name a b) (paste (shifted r name) (renamed r a) (renamed r b))
 paste_sim r name a b = record { at = λ left. go left (one_token (a.text ++ b.text)) refl } where
-  go : (left : ℕ) (o : Option PpKind) → one_token (a.text ++ b.text) ≡ o → Follows r (renamed r) (pasted_as name a b o left) (paste name (renamed r a) (renamed r b) left)
+  go : (left : ℕ) (o : Option PpKind) → one_token (a.text ++ b.text) ≡ o → Follows r (renamed r) (pasted_as name a b o left) (paste (shifted r name) (renamed r a) (renamed r b) left)
   go left None e = tt
   go left (Some kind) e = λ fine.
-      let same_a : renamed r a ≡ a = same_by_role r Pasted a (of_paste r) (harmless_left r (takes Pasted a) (takes Pasted b) fine) in
-      let same_b : renamed r b ≡ b = same_by_role r Pasted b (of_paste r) (harmless_right r (takes Pasted a) (takes Pasted b) fine) in
-      ap (λ x. paste name x (renamed r b) left) same_a
-      ∙ ap (λ x. paste name a x left) same_b
-      ∙ ap (λ o. pasted_as name a b o left) e
-      ∙ ap (λ x. note x (made name kind (a.text ++ b.text) a.space (both a.hide b.hide)) left)
-      (ap (λ x. x ++ takes Pasted b) (same_takes r Pasted a same_a) ∙ ap (λ x. renamed_events r (takes Pasted a) ++ x) (same_takes r Pasted b same_b)
+      let same_a : renamed r a ≡ shifted r a = same_by_role r Pasted a (of_paste r) (harmless_left r (takes Pasted a) (takes Pasted b) fine) in
+      let same_b : renamed r b ≡ shifted r b = same_by_role r Pasted b (of_paste r) (harmless_right r (takes Pasted a) (takes Pasted b) fine) in
+      ap (λ x. paste (shifted r name) x (renamed r b) left) same_a
+      ∙ ap (λ x. paste (shifted r name) (shifted r a) x left) same_b
+      ∙ ap (λ o. pasted_as (shifted r name) (shifted r a) (shifted r b) o left) e
+      ∙ ap (λ x. note x (made (shifted r name) kind (a.text ++ b.text) a.space (both a.hide b.hide)) left)
+      (ap (λ x. x ++ takes Pasted (shifted r b)) (same_takes r Pasted a same_a) ∙ ap (λ x. renamed_events r (takes Pasted a) ++ x) (same_takes r Pasted b same_b)
       ∙ sym (map-append (renamed_event r) (takes Pasted a) (takes Pasted b)))
 
-paste_after_sim : (r : Renaming) (name b : Token) (left : Option Token) → Sim r (renamed r) (paste_after name b left) (paste_after name (renamed r b) (option_map (renamed r) left))
+paste_after_sim : (r : Renaming) (name b : Token) (left : Option Token) → Sim r (renamed r) (paste_after name b left) (paste_after (shifted r name) (renamed r b) (option_map (renamed r) left))
 paste_after_sim r name b None = sim_give r (renamed r) b
 paste_after_sim r name b (Some a) = paste_sim r name a b
 
@@ -217,18 +229,18 @@ none_renamed r (Some t) = refl
 sim_before : (r : Renaming) (left : Option Token) (x : List Token) → Sim r (all_renamed r) (give (or_none left ++ x)) (give (or_none (option_map (renamed r) left) ++ all_renamed r x))
 sim_before r left x = record { at = λ n fine. ap (λ y. give y n) (ap (λ y. y ++ all_renamed r x) (none_renamed r left) ∙ sym (map-append (renamed r) (or_none left) x)) }
 
-all_pasted_sim : (r : Renaming) (name : Token) (left : Option Token) (pasting : Bool) (ps : List Part) → Sim r (all_renamed r) (all_pasted name left pasting ps) (all_pasted name (option_map (renamed r) left) pasting (renamed_parts r ps))
+all_pasted_sim : (r : Renaming) (name : Token) (left : Option Token) (pasting : Bool) (ps : List Part) → Sim r (all_renamed r) (all_pasted name left pasting ps) (all_pasted (shifted r name) (option_map (renamed r) left) pasting (renamed_parts r ps))
 all_pasted_sim r name left pasting [] = record { at = λ n fine. ap (λ y. give y n) (none_renamed r left) }
 all_pasted_sim r name left pasting (Joins ∷ ps) = all_pasted_sim r name left true ps
 all_pasted_sim r name left true (Is b ∷ ps) =
-    sim_then r (renamed r) (all_renamed r) (paste_after name b left) (paste_after name (renamed r b) (option_map (renamed r) left)) (λ c. all_pasted name (Some c) false ps) (λ c. all_pasted name (Some c) false (renamed_parts r ps))
+    sim_then r (renamed r) (all_renamed r) (paste_after name b left) (paste_after (shifted r name) (renamed r b) (option_map (renamed r) left)) (λ c. all_pasted name (Some c) false ps) (λ c. all_pasted (shifted r name) (Some c) false (renamed_parts r ps))
     (paste_after_sim r name b left) (λ c. all_pasted_sim r name (Some c) false ps)
 all_pasted_sim r name left true (Placemarker ∷ ps) = all_pasted_sim r name left false ps
 all_pasted_sim r name left false (Is b ∷ ps) =
-    sim_then r (all_renamed r) (all_renamed r) (all_pasted name (Some b) false ps) (all_pasted name (Some (renamed r b)) false (renamed_parts r ps)) (λ x. give (or_none left ++ x)) (λ x. give (or_none (option_map (renamed r) left) ++ x))
+    sim_then r (all_renamed r) (all_renamed r) (all_pasted name (Some b) false ps) (all_pasted (shifted r name) (Some (renamed r b)) false (renamed_parts r ps)) (λ x. give (or_none left ++ x)) (λ x. give (or_none (option_map (renamed r) left) ++ x))
     (all_pasted_sim r name (Some b) false ps) (λ x. sim_before r left x)
 all_pasted_sim r name left false (Placemarker ∷ ps) =
-    sim_then r (all_renamed r) (all_renamed r) (all_pasted name None false ps) (all_pasted name None false (renamed_parts r ps)) (λ x. give (or_none left ++ x)) (λ x. give (or_none (option_map (renamed r) left) ++ x))
+    sim_then r (all_renamed r) (all_renamed r) (all_pasted name None false ps) (all_pasted (shifted r name) None false (renamed_parts r ps)) (λ x. give (or_none left ++ x)) (λ x. give (or_none (option_map (renamed r) left) ++ x))
     (all_pasted_sim r name None false ps) (λ x. sim_before r left x)
 
 dropped_by : (r : Renaming) (b : Bool) (arg : List Token) → cond b [] (flat_map (takes Dropped) (all_renamed r arg)) ≡ renamed_events r (cond b [] (flat_map (takes Dropped) arg))
@@ -243,32 +255,36 @@ dropped_renamed r its i (arg ∷ args) =
     ∙ ap (λ x. renamed_events r (cond (list_any (is_use i) its) [] (flat_map (takes Dropped) arg)) ++ x) (dropped_renamed r its (i + 1) args)
     ∙ sym (map-append (renamed_event r) (cond (list_any (is_use i) its) [] (flat_map (takes Dropped) arg)) (dropped its (i + 1) args))
 
-placed_renamed : (r : Renaming) (name : Token) (hide : List Text) (ts : List Token) → placed name hide (all_renamed r ts) ≡ all_renamed r (placed name hide ts)
-placed_renamed r name hide ts = ap (with_space name.space) (go ts) ∙ space_renamed r name.space (map {A = Token} (λ t. record t { site = name.site; line = name.line; hide = with_names hide t.hide }) ts) where
-  go : (us : List Token) → map {A = Token} (λ t. record t { site = name.site; line = name.line; hide = with_names hide t.hide }) (all_renamed r us) ≡ all_renamed r (map {A = Token} (λ t. record t { site = name.site; line = name.line; hide = with_names hide t.hide }) us)
-  go [] = refl
-  go (u ∷ us) = ap (λ x. renamed r (record u { site = name.site; line = name.line; hide = with_names hide u.hide }) ∷ x) (go us)
+abbrev put_at : Token → List Text → Token → Token
+put_at name hide t = record t { site = name.site; line = name.line; hide = with_names hide t.hide }
 
-sim_placed : (r : Renaming) (name : Token) (hide : List Text) (ts : List Token) → Sim r (all_renamed r) (give (placed name hide ts)) (give (placed name hide (all_renamed r ts)))
+placed_renamed : (r : Renaming) (name : Token) (hide : List Text) (ts : List Token) → placed (shifted r name) hide (all_renamed r ts) ≡ all_renamed r (placed name hide ts)
+placed_renamed r name hide ts = ap (with_space name.space) (go ts) ∙ space_renamed r name.space (map (put_at name hide) ts) where
+  go : (us : List Token) → map (put_at (shifted r name) hide) (all_renamed r us) ≡ all_renamed r (map (put_at name hide) us)
+  go [] = refl
+  go (u ∷ us) = ap (λ x. renamed r (put_at name hide u) ∷ x) (go us)
+
+sim_placed : (r : Renaming) (name : Token) (hide : List Text) (ts : List Token) → Sim r (all_renamed r) (give (placed name hide ts)) (give (placed (shifted r name) hide (all_renamed r ts)))
 sim_placed r name hide ts = record { at = λ left fine. ap (λ x. give x left) (placed_renamed r name hide ts) }
 
 abbrev fill_in : Token → Args → Args → List Text → List Item → Work (List Token)
 fill_in name raw full hide its = all_filled name raw full its >>= λ ps. all_pasted name None false ps >>= λ ts. give (placed name hide ts)
 
-pub subst_sim : (r : Renaming) (name : Token) (m : MacroText) (raw full : Args) (hide : List Text) → renamed r name ≡ name → AllByRecursion (IsNoParameter r m) m.body → Sim r (all_renamed r) (Substitution.subst name m raw full hide) (Substitution.subst name (renamed_macro r m) (renamed_args r raw) (renamed_args r full) hide)
+pub subst_sim : (r : Renaming) (name : Token) (m : MacroText) (raw full : Args) (hide : List Text) → renamed r name ≡ shifted r name → AllByRecursion (IsNoParameter r m) m.body
+    → Sim r (all_renamed r) (Substitution.subst name m raw full hide) (Substitution.subst (shifted r name) (renamed_macro r m) (renamed_args r raw) (renamed_args r full) hide)
 subst_sim r name m raw full hide s h =
-    sim_to r (all_renamed r) (Substitution.subst name m raw full hide) (Substitution.subst name (renamed_macro r m) (renamed_args r raw) (renamed_args r full) hide)
-    (note (takes MacroName name ++ dropped (map (renamed_item r) (body_items m)) 0 (renamed_args r raw)) (map (renamed_item r) (body_items m)) >>= fill_in name (renamed_args r raw) (renamed_args r full) hide)
-    (ap (λ x. note (takes MacroName name ++ dropped x 0 (renamed_args r raw)) x >>= fill_in name (renamed_args r raw) (renamed_args r full) hide) (items_renamed r m m.body false 0 h))
-    (sim_then r (map (renamed_item r)) (all_renamed r) (note (takes MacroName name ++ dropped (body_items m) 0 raw) (body_items m)) (note (takes MacroName name ++ dropped (map (renamed_item r) (body_items m)) 0 (renamed_args r raw)) (map (renamed_item r) (body_items m)))
-    (fill_in name raw full hide) (fill_in name (renamed_args r raw) (renamed_args r full) hide)
-    (sim_note r (map (renamed_item r)) (takes MacroName name ++ dropped (body_items m) 0 raw) (takes MacroName name ++ dropped (map (renamed_item r) (body_items m)) 0 (renamed_args r raw)) (body_items m)
+    sim_to r (all_renamed r) (Substitution.subst name m raw full hide) (Substitution.subst (shifted r name) (renamed_macro r m) (renamed_args r raw) (renamed_args r full) hide)
+    (note (takes MacroName (shifted r name) ++ dropped (map (renamed_item r) (body_items m)) 0 (renamed_args r raw)) (map (renamed_item r) (body_items m)) >>= fill_in (shifted r name) (renamed_args r raw) (renamed_args r full) hide)
+    (ap (λ x. note (takes MacroName (shifted r name) ++ dropped x 0 (renamed_args r raw)) x >>= fill_in (shifted r name) (renamed_args r raw) (renamed_args r full) hide) (items_renamed r m m.body false 0 h))
+    (sim_then r (map (renamed_item r)) (all_renamed r) (note (takes MacroName name ++ dropped (body_items m) 0 raw) (body_items m)) (note (takes MacroName (shifted r name) ++ dropped (map (renamed_item r) (body_items m)) 0 (renamed_args r raw)) (map (renamed_item r) (body_items m)))
+    (fill_in name raw full hide) (fill_in (shifted r name) (renamed_args r raw) (renamed_args r full) hide)
+    (sim_note r (map (renamed_item r)) (takes MacroName name ++ dropped (body_items m) 0 raw) (takes MacroName (shifted r name) ++ dropped (map (renamed_item r) (body_items m)) 0 (renamed_args r raw)) (body_items m)
     (ap (λ x. x ++ dropped (map (renamed_item r) (body_items m)) 0 (renamed_args r raw)) (same_takes r MacroName name s)
     ∙ ap (λ x. renamed_events r (takes MacroName name) ++ x) (dropped_renamed r (body_items m) 0 raw)
     ∙ sym (map-append (renamed_event r) (takes MacroName name) (dropped (body_items m) 0 raw))))
-    (λ x. sim_then r (renamed_parts r) (all_renamed r) (all_filled name raw full x) (all_filled name (renamed_args r raw) (renamed_args r full) (map (renamed_item r) x))
-    (λ ps. all_pasted name None false ps >>= λ ts. give (placed name hide ts)) (λ ps. all_pasted name None false ps >>= λ ts. give (placed name hide ts)) (all_filled_sim r name raw full x)
-    (λ ps. sim_then r (all_renamed r) (all_renamed r) (all_pasted name None false ps) (all_pasted name None false (renamed_parts r ps)) (λ ts. give (placed name hide ts)) (λ ts. give (placed name hide ts))
+    (λ x. sim_then r (renamed_parts r) (all_renamed r) (all_filled name raw full x) (all_filled (shifted r name) (renamed_args r raw) (renamed_args r full) (map (renamed_item r) x))
+    (λ ps. all_pasted name None false ps >>= λ ts. give (placed name hide ts)) (λ ps. all_pasted (shifted r name) None false ps >>= λ ts. give (placed (shifted r name) hide ts)) (all_filled_sim r name raw full x)
+    (λ ps. sim_then r (all_renamed r) (all_renamed r) (all_pasted name None false ps) (all_pasted (shifted r name) None false (renamed_parts r ps)) (λ ts. give (placed name hide ts)) (λ ts. give (placed (shifted r name) hide ts))
     (all_pasted_sim r name None false ps) (λ ts. sim_placed r name hide ts))))
 
 -- a macro's name that is renamed does harm

@@ -1,5 +1,5 @@
 -- What a renaming leaves of one token, and of the events in which tokens are taken for something.
-use Rattle.std.proofs.Common.{◌≡◌, Bool, true, false, cond, List, [], ◌∷◌, ◌++◌, refl, ap, sym, ◌∙◌, subst}
+use Rattle.std.proofs.Common.{◌≡◌, Bool, true, false, cond, List, [], ◌∷◌, ◌++◌, map, refl, ap, sym, ◌∙◌, subst}
 use Rattle.std.specs.Prelude.{flat_map, codes, ◌&&◌, ◌||◌, bytes_eq}
 use Rattle.std.specs.List.{AllByRecursion}
 use Rattle.std.proofs.lemmas.List.{map-append}
@@ -12,11 +12,11 @@ use Rattle.cr_base.specs.declared.cause.Role.{Role}
 use Rattle.cr_base.specs.declared.cause.Role.TheVariants.{MacroName, Stringized, Pasted}
 use Rattle.cr_macros.specs.Tokens.{Text, Token, Event, Taken, taken_at, takes, is_mark, is_ident, is_punct, note}
 use Rattle.cr_macros.specs.Substitution.{is_hash, is_paste, with_space}
-use Rattle.cr_expand_law.specs.Renaming.{Renaming, is_at, is_old, is_renamed, renamed, all_renamed, renamed_event, IsHarmless}
+use Rattle.cr_expand_law.specs.Renaming.{Renaming, is_at, is_old, is_renamed, shifted_origin, shifted, renamed, all_renamed, renamed_event, IsHarmless}
 use Rattle.cr_expand_law.proofs.Following.{renamed_events, harmless_left, harmless_right, Never}
 
-pub by_renamed : (r : Renaming) (t : Token) (b : Bool) → is_renamed r t ≡ b → renamed r t ≡ record t { text = cond b r.new t.text }
-by_renamed r t b e = ap (λ x. record t { text = cond x r.new t.text }) e
+pub by_renamed : (r : Renaming) (t : Token) (b : Bool) → is_renamed r t ≡ b → renamed r t ≡ record (shifted r t) { text = cond b r.new t.text }
+by_renamed r t b e = ap (λ x. record (shifted r t) { text = cond x r.new t.text }) e
 
 ident_no_mark : (k : PpKind) → is_ident k ≡ true → is_punct k ≡ false
 ident_no_mark Ident h = refl
@@ -34,8 +34,8 @@ old_ident : (r : Renaming) (k : PpKind) (text : Text) (origin : Origin) → is_o
 old_ident r k text Made h = cc
 old_ident r k text (At place) h = and_left (is_ident k) (is_at r text place) h
 
--- a token that isn't renamed stays
-pub same_token : (r : Renaming) (t : Token) → is_renamed r t ≡ false → renamed r t ≡ t
+-- a token that isn't renamed keeps its text
+pub same_token : (r : Renaming) (t : Token) → is_renamed r t ≡ false → renamed r t ≡ shifted r t
 same_token r t e = by_renamed r t false e
 
 pub mark_same : (r : Renaming) (text : Text) (t : Token) → is_mark text (renamed r t) ≡ is_mark text t
@@ -81,21 +81,24 @@ harmless_old r role t (At place) s h = harmless_ident r role t.text place (is_id
 pub not_renamed : (r : Renaming) (role : Role) (t : Token) → IsStrict r role → AllByRecursion (IsHarmless r) (takes role t) → is_renamed r t ≡ false
 not_renamed r role t s h = harmless_old r role t t.origin s h
 
-pub same_by_role : (r : Renaming) (role : Role) (t : Token) → IsStrict r role → AllByRecursion (IsHarmless r) (takes role t) → renamed r t ≡ t
+pub same_by_role : (r : Renaming) (role : Role) (t : Token) → IsStrict r role → AllByRecursion (IsHarmless r) (takes role t) → renamed r t ≡ shifted r t
 same_by_role r role t s h = same_token r t (not_renamed r role t s h)
 
-pub same_by_roles : (r : Renaming) (role : Role) (ts : List Token) → IsStrict r role → AllByRecursion (IsHarmless r) (flat_map (takes role) ts) → all_renamed r ts ≡ ts
+abbrev pub all_shifted : Renaming → List Token → List Token
+all_shifted r = map (shifted r)
+
+pub same_by_roles : (r : Renaming) (role : Role) (ts : List Token) → IsStrict r role → AllByRecursion (IsHarmless r) (flat_map (takes role) ts) → all_renamed r ts ≡ all_shifted r ts
 same_by_roles r role [] s h = refl
 same_by_roles r role (t ∷ ts) s h =
     ap (λ x. x ∷ all_renamed r ts) (same_by_role r role t s (harmless_left r (takes role t) (flat_map (takes role) ts) h))
-    ∙ ap (λ x. t ∷ x) (same_by_roles r role ts s (harmless_right r (takes role t) (flat_map (takes role) ts) h))
+    ∙ ap (λ x. shifted r t ∷ x) (same_by_roles r role ts s (harmless_right r (takes role t) (flat_map (takes role) ts) h))
 
 -- a renamed token is taken for the same
-ident_renamed : (r : Renaming) (role : Role) (text : Text) (place : Place) (ident : Bool) → cond ident (Taken (cond (ident && is_at r text place) r.new text) place role ∷ []) [] ≡ renamed_events r (cond ident (Taken text place role ∷ []) [])
+ident_renamed : (r : Renaming) (role : Role) (text : Text) (place : Place) (ident : Bool) → cond ident (Taken (cond (ident && is_at r text place) r.new text) (r.shift place) role ∷ []) [] ≡ renamed_events r (cond ident (Taken text place role ∷ []) [])
 ident_renamed r role text place false = refl
 ident_renamed r role text place true = refl
 
-taken_renamed : (r : Renaming) (role : Role) (t : Token) (origin : Origin) → taken_at role (record t { text = cond (is_old r t.kind t.text origin) r.new t.text }) origin ≡ renamed_events r (taken_at role t origin)
+taken_renamed : (r : Renaming) (role : Role) (t : Token) (origin : Origin) → taken_at role (record t { text = cond (is_old r t.kind t.text origin) r.new t.text }) (shifted_origin r origin) ≡ renamed_events r (taken_at role t origin)
 taken_renamed r role t Made = refl
 taken_renamed r role t (At place) = ident_renamed r role t.text place (is_ident t.kind)
 
@@ -109,8 +112,8 @@ all_take_renamed r role (t ∷ ts) =
     ∙ ap (λ x. renamed_events r (takes role t) ++ x) (all_take_renamed r role ts)
     ∙ sym (map-append (renamed_event r) (takes role t) (flat_map (takes role) ts))
 
--- what a token that stays is taken for
-pub same_takes : (r : Renaming) (role : Role) (t : Token) → renamed r t ≡ t → takes role t ≡ renamed_events r (takes role t)
+-- what a token that keeps its text is taken for
+pub same_takes : (r : Renaming) (role : Role) (t : Token) → renamed r t ≡ shifted r t → takes role (shifted r t) ≡ renamed_events r (takes role t)
 same_takes r role t e = subst (λ x. takes role x ≡ renamed_events r (takes role t)) e (takes_renamed r role t)
 
 pub never_name : {A : Type 0} (r : Renaming) (t : Token) (more : List Event) (a : A) → is_renamed r t ≡ true → Never r (note (takes MacroName t ++ more) a)

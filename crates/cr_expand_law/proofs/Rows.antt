@@ -1,5 +1,5 @@
 -- A worked example: `foo` is renamed `bar` in the body of `#define F(x) foo x` and in `F(foo)`.
-use Rattle.std.specs.Prelude.{◌≡◌, ℕ, Bool, true, false, ◌||◌, ◌==◌, if◌then◌else◌, List, [], ◌∷◌, map, codes, bytes_eq, Option, Some, None, refl}
+use Rattle.std.specs.Prelude.{◌≡◌, ℕ, Bool, true, false, ◌||◌, ◌==◌, ◌+◌, if◌then◌else◌, List, [], ◌∷◌, map, codes, bytes_eq, Option, Some, None, refl}
 use Rattle.std.proofs.Common.{subst}
 use Rattle.std.specs.List.{AllByRecursion}
 use Rattle.cr_base.specs.declared.token.PpKind.{PpKind}
@@ -27,15 +27,15 @@ abbrev call : List Token
 call = token Ident (codes "F") 30 ∷ token Punct (codes "(") 31 ∷ token Ident (codes "foo") 32 ∷ token Punct (codes ")") 35 ∷ []
 
 abbrev renaming : Renaming
-renaming = record { is_place = λ place. place.offset == 20 || place.offset == 32; old = codes "foo"; new = codes "bar" }
+renaming = record { is_place = λ place. place.offset == 20 || place.offset == 32; old = codes "foo"; new = codes "bar"; shift = λ place. record place { offset = place.offset + 100 } }
 
 abbrev texts : Answer (List Token) → List Text
 texts (Gave ts left events) = map {A = Token} (λ t. t.text) ts
-texts (Stopped cause) = []
+texts (Stopped cause stopped) = []
 
 abbrev events_of : Answer (List Token) → List Event
 events_of (Gave ts left events) = events
-events_of (Stopped cause) = []
+events_of (Stopped cause stopped) = []
 
 before : texts (expand table call 100) ≡ codes "foo" ∷ codes "foo" ∷ []
 unfolding expand

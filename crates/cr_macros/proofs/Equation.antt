@@ -120,7 +120,7 @@ Agree f g n = (ts : List Token) (left : ℕ) → left + length ts < n → f ts l
 
 pub then_agree : {A B : Type 0} (r : Answer A) (f g : A → Work B) (left : ℕ) → Leaves left r → ((a : A) (left1 : ℕ) → left1 ≤ left → f a left1 ≡ g a left1) → then_do r f ≡ then_do r g
 then_agree (Gave a left1 events) f g left h k = ap (after events) (k a left1 h)
-then_agree (Stopped cause) f g left h k = refl
+then_agree (Stopped cause stopped) f g left h k = refl
 
 -- the same, where the first part agrees too
 pub both_agree : {A B : Type 0} (m n : Work A) (f g : A → Work B) (left : ℕ) → m left ≡ n left → Lessens m → ((a : A) (left1 : ℕ) → left1 ≤ left → f a left1 ≡ g a left1) → (m >>= f) left ≡ (n >>= g) left
@@ -129,7 +129,7 @@ both_agree m n f g left e h k = then_agree (m left) f g left (h.leaves left) k �
 -- what is paid is at least what is put in
 pub paid : {B : Type 0} (ts : List Token) (f g : List Token → Work B) (left : ℕ) → ((left1 : ℕ) → left1 + length ts < left → f ts left1 ≡ g ts left1) → (pay (1 + length ts) ts >>= f) left ≡ (pay (1 + length ts) ts >>= g) left
 paid {B} ts f g left h = go (nat_lt left (1 + length ts)) refl where
-  go : (b : Bool) → nat_lt left (1 + length ts) ≡ b → then_do {B = B} (cond b (Stopped Over) (Gave ts (left - (1 + length ts)) (Rule ∷ []))) f ≡ then_do (cond b (Stopped Over) (Gave ts (left - (1 + length ts)) (Rule ∷ []))) g
+  go : (b : Bool) → nat_lt left (1 + length ts) ≡ b → then_do {B = B} (cond b (Stopped Over []) (Gave ts (left - (1 + length ts)) (Rule ∷ []))) f ≡ then_do (cond b (Stopped Over []) (Gave ts (left - (1 + length ts)) (Rule ∷ []))) g
   go true e = refl
   go false e = ap (after (Rule ∷ [])) (h (left - (1 + length ts)) (let k : 1 + length ts ≤ left = grind (arith, nat_tests) in omega arith))
 

@@ -5,7 +5,7 @@ use Rattle.cr_base.specs.declared.token.Place.{Place}
 use Rattle.cr_base.specs.declared.token.Origin.TheVariants.{At}
 use Rattle.cr_base.specs.declared.cause.Role.TheVariants.{MacroName, Stringized, Pasted, Dropped}
 use Rattle.cr_macros.specs.OneToken.{one_token, is_punctuator, punctuators, is_white}
-use Rattle.cr_macros.specs.Tokens.{Text, Token, MacroText, Event, Rule, Taken, ArgCount, OpenCall, BadPaste, Over, Answer, Gave, Stopped}
+use Rattle.cr_macros.specs.Tokens.{Text, Token, MacroText, Event, Rule, Taken, Cause, ArgCount, OpenCall, BadPaste, Over, Answer, Gave, Stopped}
 use Rattle.cr_macros.specs.Expansion.{Table, expand}
 
 abbrev at : ℕ → Place
@@ -50,8 +50,13 @@ table ps = record { macro = lookup ps; file = codes "\"a.c\"" }
 
 -- the texts that are given, with a blank before one that has white space before it, and the work
 abbrev shown : ℕ → Answer (List Token) → Option (List Text × ℕ)
-shown n (Stopped c) = None
+shown n (Stopped cause events) = None
 shown n (Gave ts left events) = Some (map {A = Token} (λ t. (if t.space then 32 ∷ [] else []) ++ t.text) ts, n - left)
+
+-- why it stopped
+abbrev stop_of : Answer (List Token) → Option Cause
+stop_of (Gave ts left events) = None
+stop_of (Stopped cause events) = Some cause
 
 abbrev run : List (Text × MacroText) → Text → Option (List Text × ℕ)
 unfolding expand is_punctuator punctuators
@@ -71,7 +76,7 @@ each_other_once : run each_other (codes "f(2)(9)") ≡ Some (codes " 2" ∷ code
 unfolding expand is_punctuator punctuators
 each_other_once = refl
 
-work_of_12_is_too_little : expand (table each_other) (toks (codes "f(2)(9)")) 12 ≡ Stopped Over
+work_of_12_is_too_little : stop_of (expand (table each_other) (toks (codes "f(2)(9)")) 12) ≡ Some Over
 unfolding expand is_punctuator punctuators
 work_of_12_is_too_little = refl
 
@@ -83,7 +88,7 @@ string_of_an_argument : run stringize (codes "S( a  \"b\\n\" )") ≡ Some (codes
 unfolding expand is_punctuator punctuators
 string_of_an_argument = refl
 
-a_backslash_is_no_string : expand (table stringize) (toks (codes "S(\\)")) 100 ≡ Stopped (BadPaste (at 0))
+a_backslash_is_no_string : stop_of (expand (table stringize) (toks (codes "S(\\)")) 100) ≡ Some (BadPaste (at 0))
 unfolding expand is_punctuator punctuators
 a_backslash_is_no_string = refl
 
@@ -106,15 +111,15 @@ an_arrow_is_pasted : run concat (codes "C(-,>)") ≡ Some (codes " ->" ∷ [], 2
 unfolding expand is_punctuator punctuators
 an_arrow_is_pasted = refl
 
-no_token_is_pasted : expand (table concat) (toks (codes "C(+,/)")) 100 ≡ Stopped (BadPaste (at 0))
+no_token_is_pasted : stop_of (expand (table concat) (toks (codes "C(+,/)")) 100) ≡ Some (BadPaste (at 0))
 unfolding expand is_punctuator punctuators
 no_token_is_pasted = refl
 
-one_argument_is_missing : expand (table concat) (toks (codes "C(1)")) 100 ≡ Stopped (ArgCount (at 0))
+one_argument_is_missing : stop_of (expand (table concat) (toks (codes "C(1)")) 100) ≡ Some (ArgCount (at 0))
 unfolding expand is_punctuator punctuators
 one_argument_is_missing = refl
 
-a_parenthesis_is_missing : expand (table concat) (toks (codes "C(1")) 100 ≡ Stopped (OpenCall (at 0))
+a_parenthesis_is_missing : stop_of (expand (table concat) (toks (codes "C(1")) 100) ≡ Some (OpenCall (at 0))
 unfolding expand is_punctuator punctuators
 a_parenthesis_is_missing = refl
 
@@ -133,12 +138,12 @@ unfolding expand is_punctuator punctuators
 a_version_and_the_file = refl
 
 -- calls inside arguments, none of which has paid yet, are nested deeper than the work that is left
-a_cause_inside_comes_first : expand (table (like (codes "I") (codes "x" ∷ []) false (codes "x") ∷ concat)) (toks (codes "I(I(I(I(C(+,/)))))")) 1 ≡ Stopped (BadPaste (at 8))
+a_cause_inside_comes_first : stop_of (expand (table (like (codes "I") (codes "x" ∷ []) false (codes "x") ∷ concat)) (toks (codes "I(I(I(I(C(+,/)))))")) 1) ≡ Some (BadPaste (at 8))
 unfolding expand is_punctuator punctuators
 a_cause_inside_comes_first = refl
 
 abbrev texts : Answer (List Token) → Option Text
-texts (Stopped c) = None
+texts (Stopped cause events) = None
 texts (Gave ts left events) = Some (flat_map (λ t. t.text) ts)
 
 -- C11 6.10.3.5, EXAMPLE 3
@@ -197,7 +202,7 @@ a_list_is_reported = refl
 
 -- roles: K is a macro's name, y is dropped, u is made a string, v and w1 are pasted
 abbrev events_of : Answer (List Token) → List Event
-events_of (Stopped c) = []
+events_of (Stopped cause events) = []
 events_of (Gave ts left events) = events
 
 abbrev each_role : List (Text × MacroText)

@@ -12,22 +12,22 @@ use Rattle.cr_macros.specs.Expansion.{expanded, expanded_if}
 
 abbrev pub Leaves : {A : Type 0} → ℕ → Answer A → Type 0
 Leaves left (Gave a left1 events) = left1 ≤ left
-Leaves left (Stopped cause) = Unit {0}
+Leaves left (Stopped cause stopped) = Unit {0}
 
 pub record Lessens {A : Type 0} (m : Work A) : Type 0 where
   pub leaves : (left : ℕ) → Leaves left (m left)
 
 leaves_after : {A : Type 0} (left : ℕ) (events : List Event) (r : Answer A) → Leaves left r → Leaves left (after events r)
 leaves_after left events (Gave a left1 more) h = h
-leaves_after left events (Stopped cause) h = tt
+leaves_after left events (Stopped cause stopped) h = tt
 
 leaves_less : {A : Type 0} (left left1 : ℕ) (r : Answer A) → left1 ≤ left → Leaves left1 r → Leaves left r
 leaves_less left left1 (Gave a left2 more) h k = omega arith
-leaves_less left left1 (Stopped cause) h k = tt
+leaves_less left left1 (Stopped cause stopped) h k = tt
 
 leaves_then : {A B : Type 0} (left : ℕ) (r : Answer A) (f : A → Work B) → Leaves left r → ((a : A) → Lessens (f a)) → Leaves left (then_do r f)
 leaves_then left (Gave a left1 events) f h g = leaves_after left events (f a left1) (leaves_less left left1 (f a left1) h ((g a).leaves left1))
-leaves_then left (Stopped cause) f h g = tt
+leaves_then left (Stopped cause stopped) f h g = tt
 
 pub lessens_then : {A B : Type 0} (m : Work A) (f : A → Work B) → Lessens m → ((a : A) → Lessens (f a)) → Lessens (m >>= f)
 lessens_then m f h g = record { leaves = λ left. leaves_then left (m left) f (h.leaves left) g }
@@ -87,7 +87,7 @@ lessens_subst name m raw full hide =
 
 pub lessens_pay : {A : Type 0} (n : ℕ) (a : A) → Lessens (pay n a)
 lessens_pay n a = record { leaves = λ left. go left (nat_lt left n) } where
-  go : (left : ℕ) (b : Bool) → Leaves left (cond b (Stopped Over) (Gave a (left - n) (Rule ∷ [])))
+  go : (left : ℕ) (b : Bool) → Leaves left (cond b (Stopped Over []) (Gave a (left - n) (Rule ∷ [])))
   go left true = tt
   go left false = omega arith
 

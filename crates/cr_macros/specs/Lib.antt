@@ -5,3 +5,4 @@ pub mod Expansion
 pub mod Definition
 pub mod MacroTables
 pub mod Laws
+pub mod Uses

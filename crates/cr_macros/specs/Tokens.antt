@@ -92,10 +92,10 @@ pub data Cause : Type 0 where
   BadPaste : Place → Cause
   Over : Cause
 
--- what work gives, the macro work that is left after it, and its events in order; or why it stopped
+-- what work gives, the macro work that is left after it, and its events in order; or why it stopped, and its events before that
 pub data Answer (A : Type 0) : Type 0 where
   Gave : A → ℕ → List Event → Answer A
-  Stopped : Cause → Answer A
+  Stopped : Cause → List Event → Answer A
 
 -- work that is done while this much macro work is left
 abbrev pub Work : Type 0 → Type 0
@@ -103,11 +103,11 @@ Work A = ℕ → Answer A
 
 abbrev pub after : {A : Type 0} → List Event → Answer A → Answer A
 after events (Gave a left more) = Gave a left (events ++ more)
-after events (Stopped cause) = Stopped cause
+after events (Stopped cause more) = Stopped cause (events ++ more)
 
 abbrev pub then_do : {A B : Type 0} → Answer A → (A → Work B) → Answer B
 then_do (Gave a left events) f = after events (f a left)
-then_do (Stopped cause) f = Stopped cause
+then_do (Stopped cause events) f = Stopped cause events
 
 infixl 10 ◌>>=◌
 abbrev pub ◌>>=◌ : {A B : Type 0} → Work A → (A → Work B) → Work B
@@ -117,7 +117,7 @@ abbrev pub give : {A : Type 0} → A → Work A
 give a left = Gave a left []
 
 abbrev pub fail : {A : Type 0} → Cause → Work A
-fail cause left = Stopped cause
+fail cause left = Stopped cause []
 
 -- these are the events
 abbrev pub note : {A : Type 0} → List Event → A → Work A
@@ -125,7 +125,7 @@ note events a left = Gave a left events
 
 -- a use of a rule that costs n of macro work
 abbrev pub pay : {A : Type 0} → ℕ → A → Work A
-pay n a left = if nat_lt left n then Stopped Over else Gave a (left - n) (Rule ∷ [])
+pay n a left = if nat_lt left n then Stopped Over [] else Gave a (left - n) (Rule ∷ [])
 
 -- the token with its text and this hide set
 abbrev pub token_of : List Text → List Text → PpTok → Token

@@ -1,6 +1,5 @@
-use crate::{ExpandFault, MacroTable};
+use crate::{ExpandFault, MacroTable, one_token};
 use cr_base::{Name, NameTable, Origin, OutOfMemory, PathNo, Place, PpKind, PpTok};
-use cr_macros::one_token;
 use std::alloc::Global;
 use std::test::Fail;
 

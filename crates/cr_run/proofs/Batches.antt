@@ -101,6 +101,7 @@ module _ (meaning : Meaning) (files : Files) (wanted : Wanted) (units : List Tra
   limit_refuses n (refusal.ReadFault path) lt none h = tt
   limit_refuses n refusal.NoSymbol lt none h = absurd h
   limit_refuses n (refusal.Reserved name) lt none h = absurd h
+  limit_refuses n (refusal.Spelling place) lt none h = absurd h
   limit_refuses n refusal.OutOfMemory lt none h = tt
   limit_refuses n refusal.LimitUnits lt none h = absurd h
   limit_refuses n refusal.LimitFiles lt none h = refuses n (refused_of refusal.LimitFiles) lt none (limit_at n h)
@@ -116,6 +117,7 @@ module _ (meaning : Meaning) (files : Files) (wanted : Wanted) (units : List Tra
   decided_more P Q (refusal.ReadFault path) more h = tt
   decided_more P Q refusal.NoSymbol more h = more h
   decided_more P Q (refusal.Reserved name) more h = more h
+  decided_more P Q (refusal.Spelling place) more h = more h
   decided_more P Q refusal.OutOfMemory more h = tt
   decided_more P Q refusal.LimitUnits more h = more h
   decided_more P Q refusal.LimitFiles more h = more h

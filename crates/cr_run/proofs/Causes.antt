@@ -13,6 +13,7 @@ cause_more V W P Q (refusal.Database text) more h = tt
 cause_more V W P Q (refusal.ReadFault path) more h = more path h
 cause_more V W P Q refusal.NoSymbol more h = tt
 cause_more V W P Q (refusal.Reserved name) more h = tt
+cause_more V W P Q (refusal.Spelling place) more h = tt
 cause_more V W P Q refusal.OutOfMemory more h = tt
 cause_more V W P Q refusal.LimitUnits more h = tt
 cause_more V W P Q refusal.LimitFiles more h = tt

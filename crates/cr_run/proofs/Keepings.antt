@@ -12,23 +12,25 @@ use Rattle.cr_base.specs.declared.unit.Unit.{Unit as TranslationUnit}
 use Rattle.cr_world.specs.Outside.{Files}
 use Rattle.cr_compdb.specs.declared.entry.Entry.{Entry}
 use Rattle.cr_words.specs.Requests.{Request, Task, Rename as WordsRename, Aim, renames, generates, at_offset, name_in_file, name_in_database, read_words}
-use Rattle.cr_small.specs.Tokens.{Token, cut}
+use Rattle.cr_lex.specs.Lexing.{Token, Lexed, lexed}
 use Rattle.cr_small.specs.Terminals.{is_name}
 use Rattle.cr_small.specs.Keys.{Key, external, at, has_external_linkage, key_of_token, key_of, is_key}
-use Rattle.cr_small.specs.Renaming.{Target, target_at, places_of, has_text}
+use Rattle.cr_small.specs.Renaming.{Target, target_at, places_of, first_unspellable, has_text}
 use Rattle.cr_small.specs.SmallForm.{IsSmallForm, Resolves}
-use Rattle.cr_small.specs.KeepsMeaning.{renamed_token, AreLinked, KeepsMeaning}
+use Rattle.cr_lex.specs.Renaming.{renamed_token}
+use Rattle.cr_small.specs.KeepsMeaning.{AreLinked, KeepsMeaning}
 use Rattle.cr_small.specs.Laws.{IsNameOf, NamesItsKey, RenamingKeepsMeaning, KeysMove, moved_key}
 use Rattle.cr_small.specs.declared.binder.Denotation.{Denotation}
 use Rattle.cr_run.specs.Goal.{Goal, Refused, refused, reserved, is_refused, goal_at, goal_of_task, goal_of_request, goal_of, ◌>>=◌}
 use Rattle.cr_run.specs.Units.{units_in, mains, entries_of}
 use Rattle.cr_run.specs.Renames.{FileEdit, Rename, places_of_edit, places, renamed_files}
-use Rattle.cr_run.specs.Survey.{Meaning, IsMeaning, files_so_far, is_too_long, is_empty, is_clear_file, is_clear, refusal_of_batch, refusal_below, refusal_of_units, batches, key_in, places_in_text, places_in_file, is_over}
-use Rattle.cr_run.specs.Outcome.{may_rename, renamable, named, is_main_source, begins_with_underscore, has_offsets, edit_at, rename_of, of_target, of_meaning, of_text, of_source, of_entries, of_goal, outcome, or_refused}
+use Rattle.cr_run.specs.Survey.{Meaning, IsMeaning, files_so_far, is_too_long, is_empty, is_clear_file, is_clear, refusal_of_batch, refusal_below, refusal_of_units, batches, key_in, places_in_text, places_in_file, unspellable_in_text, unspellable_in_file, unspellable_at, is_over}
+use Rattle.cr_run.specs.Outcome.{may_rename, renamable, named, is_main_source, begins_with_underscore, has_offsets, edit_at, refusal_of_spelling, rename_of, of_target, of_meaning, of_text, of_source, of_entries, of_goal, outcome, or_refused}
 use Rattle.cr_run.specs.Report.{contents}
 use Rattle.cr_run.specs.Keeps.{EntityKey, named as by_name, at_place, entity_key, tokens_at, AreLinkedOver, KeepsFile, KeepsUnits, Keeps, AcceptedKeeps}
 use Rattle.cr_run.proofs.Surveys.{eq_self}
 use Rattle.cr_run.proofs.Lookups.{main_of, met}
+use Rattle.cr_run.proofs.Spelled.{none-refuses}
 use Rattle.cr_run.specs.Planning.{Apart}
 use Rattle.cr_run.proofs.Editings.{order_apart, offsets_both, own_offsets, no_offsets, none_there, fewer, apart_sym, or_false_left, or_false_right}
 
@@ -186,15 +188,17 @@ kept-tokens : (name new : List ℕ) (ts : List Token) → ts ≡ map (renamed_to
 kept-tokens name new [] = refl
 kept-tokens name new (t ∷ ts) = ap (λ l. t ∷ l) (kept-tokens name new ts)
 
-still : (ts : List Token) (ds : List (Option Denotation)) (name new : List ℕ) → IsSmallForm ts ds → (k : KeepsMeaning ts ts [] name new) × (k.denotes ≡ ds)
-still ts ds name new small = (
+still : (text : Lexed) (ds : List (Option Denotation)) (name new : List ℕ) → IsSmallForm text ds → (k : KeepsMeaning text text [] name new) × (k.denotes ≡ ds)
+still text ds name new small = (
   record {
-    tokens = kept-tokens name new ts;
+    was_whole = small.0;
+    is_whole = small.0;
+    tokens = kept-tokens name new text.tokens;
     spelled = λ i t h p. let no : false ≡ true = p in let bad : ⊥ = cc in absurd bad;
-    tree = small.1.0;
+    tree = small.2.0;
     denotes = ds;
-    was_well_formed = small.1.1;
-    is_well_formed = small.1.1;
+    was_well_formed = small.2.1;
+    is_well_formed = small.2.1;
     links = λ i j. (λ h. h, λ h. h);
   },
   refl,
@@ -209,9 +213,9 @@ pub record ClearFile (meaning : Meaning) (files : Files) (new path : List ℕ) :
   pub bytes : List ℕ
   pub ds : List (Option Denotation)
   pub was : files path ≡ Some bytes
-  pub meant : meaning (cut 0 bytes) ≡ Some ds
-  pub small : IsSmallForm (cut 0 bytes) ds
-  pub fresh : has_text new (cut 0 bytes) ≡ false
+  pub meant : meaning (lexed bytes) ≡ Some ds
+  pub small : IsSmallForm (lexed bytes) ds
+  pub fresh : has_text new (lexed bytes).tokens ≡ false
 
 clear-file : (meaning : Meaning) (files : Files) (new : List ℕ) (unit : TranslationUnit) → IsMeaning meaning → is_clear meaning files new unit ≡ true → ClearFile meaning files new unit.main
 clear-file meaning files new unit is h = of-file (files unit.main) refl (both (is_empty unit.words) (is_clear_file meaning new (files unit.main)) h)
@@ -220,18 +224,18 @@ clear-file meaning files new unit is h = of-file (files unit.main) refl (both (i
     both true b e = e
     both false b e = let bad : ⊥ = cc in absurd bad
 
-    of-text : (bytes : List ℕ) → files unit.main ≡ Some bytes → (o : Option (List (Option Denotation))) → meaning (cut 0 bytes) ≡ o → (b : Bool) → has_text new (cut 0 bytes) ≡ b → (is_some o && not b) ≡ true → ClearFile meaning files new unit.main
+    of-text : (bytes : List ℕ) → files unit.main ≡ Some bytes → (o : Option (List (Option Denotation))) → meaning (lexed bytes) ≡ o → (b : Bool) → has_text new (lexed bytes).tokens ≡ b → (is_some o && not b) ≡ true → ClearFile meaning files new unit.main
     of-text bytes was None m b t e = let bad : ⊥ = cc in absurd bad
     of-text bytes was (Some ds) m true t e = let bad : ⊥ = cc in absurd bad
-    of-text bytes was (Some ds) m false t e = record { bytes = bytes; ds = ds; was = was; meant = m; small = subst (Resolves (cut 0 bytes)) m (is (cut 0 bytes)); fresh = t }
+    of-text bytes was (Some ds) m false t e = record { bytes = bytes; ds = ds; was = was; meant = m; small = subst (Resolves (lexed bytes)) m (is (lexed bytes)); fresh = t }
 
     of-file : (o : Option (List ℕ)) → files unit.main ≡ o → is_clear_file meaning new o ≡ true → ClearFile meaning files new unit.main
     of-file None was e = let bad : ⊥ = cc in absurd bad
-    of-file (Some bytes) was e = of-text bytes was (meaning (cut 0 bytes)) refl (has_text new (cut 0 bytes)) refl e
+    of-file (Some bytes) was e = of-text bytes was (meaning (lexed bytes)) refl (has_text new (lexed bytes).tokens) refl e
 
 module _ (law : RenamingKeepsMeaning) (moves : KeysMove) (names : NamesItsKey) (meaning : Meaning) (is : IsMeaning meaning) (files : Files) (goal : Goal) (es : List Entry) (target : Target)
-    (new_name : is_name goal.new ≡ true) (sbytes : List ℕ) (sdenotes : List (Option Denotation)) (there : files goal.source ≡ Some sbytes) (source_small : IsSmallForm (cut 0 sbytes) sdenotes) (source_meant : meaning (cut 0 sbytes) ≡ Some sdenotes)
-    (aim : target_at goal.offset (cut 0 sbytes) sdenotes ≡ Some target) where
+    (new_name : is_name goal.new ≡ true) (sbytes : List ℕ) (sdenotes : List (Option Denotation)) (there : files goal.source ≡ Some sbytes) (source_small : IsSmallForm (lexed sbytes) sdenotes) (source_meant : meaning (lexed sbytes) ≡ Some sdenotes)
+    (aim : target_at goal.offset (lexed sbytes).tokens sdenotes ≡ Some target) (spelled : refusal_of_spelling meaning files goal (units_in es) target.key ≡ None) where
   abbrev r : Rename
   r = rename_of meaning files goal es target
 
@@ -239,7 +243,7 @@ module _ (law : RenamingKeepsMeaning) (moves : KeysMove) (names : NamesItsKey) (
   offsets_of path = offsets_in path (places r)
 
   abbrev denotes_of : List ℕ → List (Option Denotation)
-  denotes_of path = or_nothing (meaning (cut 0 (contents (files path))))
+  denotes_of path = or_nothing (meaning (lexed (contents (files path))))
 
   -- a key of a file after the rename, by the offsets at which it is renamed
   abbrev moved_in : List ℕ → EntityKey → EntityKey
@@ -255,42 +259,52 @@ module _ (law : RenamingKeepsMeaning) (moves : KeysMove) (names : NamesItsKey) (
       by false e = let bad : ⊥ = cc in absurd bad
 
   -- the target's name is that of its key in each file
-  name-of : (path bytes : List ℕ) (ds : List (Option Denotation)) (k : Key) → files path ≡ Some bytes → meaning (cut 0 bytes) ≡ Some ds → key_in goal.source target.key path ≡ Some k → IsNameOf target.name k (cut 0 bytes) ds
+  name-of : (path bytes : List ℕ) (ds : List (Option Denotation)) (k : Key) → files path ≡ Some bytes → meaning (lexed bytes) ≡ Some ds → key_in goal.source target.key path ≡ Some k → IsNameOf target.name k (lexed bytes).tokens ds
   name-of path bytes ds k was meant h = by target.key refl h
     where
-      by : (key : Key) → target.key ≡ key → key_in goal.source key path ≡ Some k → IsNameOf target.name k (cut 0 bytes) ds
+      by : (key : Key) → target.key ≡ key → key_in goal.source key path ≡ Some k → IsNameOf target.name k (lexed bytes).tokens ds
       by (external n) e g = let same : external n ≡ k = cc in inl (sym same ∙ ap external (names sbytes n sdenotes goal.offset target source_small aim e))
       by (at o) e g = here (bytes_eq goal.source path) refl g
         where
-          here : (b : Bool) → bytes_eq goal.source path ≡ b → (if b then Some (at o) else None) ≡ Some k → IsNameOf target.name k (cut 0 bytes) ds
+          here : (b : Bool) → bytes_eq goal.source path ≡ b → (if b then Some (at o) else None) ≡ Some k → IsNameOf target.name k (lexed bytes).tokens ds
           here false q f = let bad : ⊥ = cc in absurd bad
           here true q f =
               let paths : goal.source ≡ path = (bytes_eq-Decides goal.source path).0 q in
               let files_same : Some sbytes ≡ Some bytes = sym there ∙ ap files paths ∙ was in
               let bytes_same : sbytes ≡ bytes = cc in
-              let denotes_same : Some sdenotes ≡ Some ds = sym source_meant ∙ ap (λ b. meaning (cut 0 b)) bytes_same ∙ meant in
+              let denotes_same : Some sdenotes ≡ Some ds = sym source_meant ∙ ap (λ b. meaning (lexed b)) bytes_same ∙ meant in
               let ds_same : sdenotes ≡ ds = cc in
               let keys : at o ≡ k = cc in
-              inr (goal.offset, target, ap (λ b. target_at goal.offset (cut 0 b) ds) (sym bytes_same) ∙ ap (target_at goal.offset (cut 0 sbytes)) (sym ds_same) ∙ aim, refl, e ∙ keys)
+              inr (goal.offset, target, ap (λ b. target_at goal.offset (lexed b).tokens ds) (sym bytes_same) ∙ ap (target_at goal.offset (lexed sbytes).tokens) (sym ds_same) ∙ aim, refl, e ∙ keys)
 
   module _ (path : List ℕ) (c : ClearFile meaning files goal.new path) (met_there : list_any (bytes_eq path) (files_so_far goal.source (units_in es)) ≡ true) where
     abbrev before : List Token
-    before = cut 0 c.bytes
+    before = (lexed c.bytes).tokens
 
     abbrev after : List Token
-    after = cut 0 (substituted (offsets_of path) (length target.name) goal.new c.bytes)
+    after = (lexed (substituted (offsets_of path) (length target.name) goal.new c.bytes)).tokens
 
     offsets_are : offsets_of path ≡ places_in_text (key_in goal.source target.key path) before (Some c.ds)
     offsets_are =
         offsets_all (edit_at meaning files goal target.key) (λ p. refl) path (files_so_far goal.source (units_in es)) (order_apart (goal.source ∷ mains (units_in es))) met_there
         ∙ ap (places_in_file meaning (key_in goal.source target.key path)) c.was ∙ ap (places_in_text (key_in goal.source target.key path) before) c.meant
 
+    -- the new name can be spelled at each place
+    spellable : (k : Key) → key_in goal.source target.key path ≡ Some k → first_unspellable c.bytes goal.new k before c.ds ≡ None
+    spellable k e =
+        sym (
+        ap (unspellable_in_file meaning goal.new (key_in goal.source target.key path)) c.was
+        ∙ ap (unspellable_in_text c.bytes goal.new (key_in goal.source target.key path) before) c.meant
+        ∙ ap (λ o. unspellable_in_text c.bytes goal.new o before (Some c.ds)) e
+        )
+        ∙ none-refuses (unspellable_at meaning files goal.source goal.new target.key) (files_so_far goal.source (units_in es)) path spelled met_there
+
     abbrev KeptAt : List ℕ → Type 0
-    KeptAt os = (k : KeepsMeaning before (cut 0 (substituted os (length target.name) goal.new c.bytes)) os target.name goal.new) × (k.denotes ≡ c.ds)
+    KeptAt os = (k : KeepsMeaning (lexed c.bytes) (lexed (substituted os (length target.name) goal.new c.bytes)) os target.name goal.new) × (k.denotes ≡ c.ds)
 
     kept-by : (o : Option Key) → key_in goal.source target.key path ≡ o → KeptAt (places_in_text o before (Some c.ds))
-    kept-by None e = still before c.ds target.name goal.new c.small
-    kept-by (Some k) e = law c.bytes target.name goal.new k c.ds c.small (name-of path c.bytes c.ds k c.was c.meant e) new_name c.fresh
+    kept-by None e = still (lexed c.bytes) c.ds target.name goal.new c.small
+    kept-by (Some k) e = law c.bytes target.name goal.new k c.ds c.small (name-of path c.bytes c.ds k c.was c.meant e) new_name c.fresh (spellable k e)
 
     kept_at : KeptAt (offsets_of path)
     kept_at = subst KeptAt (sym offsets_are) (kept-by (key_in goal.source target.key path) refl)
@@ -299,20 +313,20 @@ module _ (law : RenamingKeepsMeaning) (moves : KeysMove) (names : NamesItsKey) (
     is-renamed = ap (option_map (substituted (offsets_of path) (length target.name) goal.new)) c.was
 
     tokens-before : tokens_at files path ≡ before
-    tokens-before = ap (λ o. cut 0 (contents o)) c.was
+    tokens-before = ap (λ o. (lexed (contents o)).tokens) c.was
 
     tokens-after : tokens_at (renamed_files r files) path ≡ after
-    tokens-after = ap (λ o. cut 0 (contents o)) is-renamed
+    tokens-after = ap (λ o. (lexed (contents o)).tokens) is-renamed
 
     denotes-are : denotes_of path ≡ c.ds
-    denotes-are = ap (λ o. or_nothing (meaning (cut 0 (contents o)))) c.was ∙ ap or_nothing c.meant
+    denotes-are = ap (λ o. or_nothing (meaning (lexed (contents o)))) c.was ∙ ap or_nothing c.meant
 
     pub file-kept : KeepsFile files r path (denotes_of path)
     file-kept = record { before = c.bytes; after = substituted (offsets_of path) (length target.name) goal.new c.bytes; was = c.was; is = is-renamed; kept = kept_at.0; means = kept_at.1 ∙ sym denotes-are }
 
     -- the key of what a token denotes afterwards
     moved-text : (o : Option Key) → key_in goal.source target.key path ≡ o → (i : ℕ) (d : Denotation) → slice_get c.ds i ≡ Some (Some d)
-        → option_map (entity_key path) (key_of (cut 0 (substituted (places_in_text o before (Some c.ds)) (length target.name) goal.new c.bytes)) d) ≡ option_map (moved_in (places_in_text o before (Some c.ds))) (option_map (entity_key path) (key_of before d))
+        → option_map (entity_key path) (key_of (lexed (substituted (places_in_text o before (Some c.ds)) (length target.name) goal.new c.bytes)).tokens d) ≡ option_map (moved_in (places_in_text o before (Some c.ds))) (option_map (entity_key path) (key_of before d))
     moved-text None e i d h = by (key_of before d)
       where
         unkeyed : (key : Key) → key_in goal.source key path ≡ None → (n : List ℕ) → is_key key (external n) ≡ false
@@ -324,7 +338,7 @@ module _ (law : RenamingKeepsMeaning) (moves : KeysMove) (names : NamesItsKey) (
         by (Some (external n)) = sym (ap (λ b. Some (by_name (if b then goal.new else n))) (unkeyed target.key e n))
         by (Some (at o)) = refl
     moved-text (Some k) e i d h =
-        ap (option_map (entity_key path)) (moves c.bytes target.name goal.new k c.ds c.small (name-of path c.bytes c.ds k c.was c.meant e) new_name c.fresh i d h)
+        ap (option_map (entity_key path)) (moves c.bytes target.name goal.new k c.ds c.small (name-of path c.bytes c.ds k c.was c.meant e) new_name c.fresh (spellable k e) i d h)
         ∙ by (key_of before d)
       where
         by : (x : Option Key) → option_map (entity_key path) (option_map (moved_key k (places_of k before c.ds) target.name goal.new) x) ≡ option_map (moved_in (places_of k before c.ds)) (option_map (entity_key path) x)
@@ -339,7 +353,7 @@ module _ (law : RenamingKeepsMeaning) (moves : KeysMove) (names : NamesItsKey) (
     pub keyed-after : (i : ℕ) (d : Denotation) → slice_get (denotes_of path) i ≡ Some (Some d) → option_map (entity_key path) (key_of (tokens_at (renamed_files r files) path) d) ≡ option_map (moved_in (offsets_of path)) (option_map (entity_key path) (key_of (tokens_at files path) d))
     keyed-after i d h =
         ap (λ ts. option_map (entity_key path) (key_of ts d)) tokens-after
-        ∙ subst (λ os. option_map (entity_key path) (key_of (cut 0 (substituted os (length target.name) goal.new c.bytes)) d) ≡ option_map (moved_in os) (option_map (entity_key path) (key_of before d))) (sym offsets_are)
+        ∙ subst (λ os. option_map (entity_key path) (key_of (lexed (substituted os (length target.name) goal.new c.bytes)).tokens d) ≡ option_map (moved_in os) (option_map (entity_key path) (key_of before d))) (sym offsets_are)
         (moved-text (key_in goal.source target.key path) refl i d (ap (λ l. slice_get l i) (sym denotes-are) ∙ h))
         ∙ sym (ap (λ ts. option_map (moved_in (offsets_of path)) (option_map (entity_key path) (key_of ts d))) tokens-before)
 
@@ -430,7 +444,7 @@ module _ (law : RenamingKeepsMeaning) (moves : KeysMove) (names : NamesItsKey) (
         some-same : (x y : Denotation) (l : List (Option Denotation)) (n : ℕ) → slice_get l n ≡ Some (Some x) → slice_get l n ≡ Some (Some y) → x ≡ y
         some-same x y l n h k = let s : Some (Some x) ≡ Some (Some y) = sym h ∙ k in cc
 
-        back : AreLinked (cut 0 one.bytes) (file-kept p one met_one).kept.denotes i j → (file-kept p one met_one).kept.denotes ≡ denotes_of p → slice_get (denotes_of p) i ≡ Some (Some d) → slice_get (denotes_of p) j ≡ Some (Some e) → AreLinkedOver files denotes_of p i q j
+        back : AreLinked (lexed one.bytes).tokens (file-kept p one met_one).kept.denotes i j → (file-kept p one met_one).kept.denotes ≡ denotes_of p → slice_get (denotes_of p) i ≡ Some (Some d) → slice_get (denotes_of p) j ≡ Some (Some e) → AreLinkedOver files denotes_of p i q j
         back (x, y, hx, hy, k, kx, ky) means hd he' = (
           entity_key p k,
           (x, ap (λ l. slice_get l i) (sym means) ∙ hx, ap (λ ts. option_map (entity_key p) (key_of ts x)) (tokens-before p one met_one) ∙ ap (option_map (entity_key p)) kx),
@@ -468,19 +482,23 @@ in_mains : (units : List TranslationUnit) (i : ℕ) (u : TranslationUnit) → sl
 in_mains units i u h = main_of units i u h
 
 module _ (law : RenamingKeepsMeaning) (moves : KeysMove) (names : NamesItsKey) (meaning : Meaning) (is : IsMeaning meaning) (words : List (List ℕ)) (files : Files) where
-  units-keep : (goal : Goal) (es : List Entry) (target : Target) (sbytes : List ℕ) (sdenotes : List (Option Denotation)) → goal_of words ≡ Ok goal → files goal.source ≡ Some sbytes → meaning (cut 0 sbytes) ≡ Some sdenotes
-      → target_at goal.offset (cut 0 sbytes) sdenotes ≡ Some target → refusal_of_units meaning files goal.source goal.new (units_in es) ≡ None → KeepsUnits files (rename_of meaning files goal es target) (units_in es)
-  units-keep goal es target sbytes sdenotes named there meant aim none = record {
-    denotes = λ path. or_nothing (meaning (cut 0 (contents (files path))));
-    kept = λ unit among. file-kept law moves names meaning is files goal es target new_name sbytes sdenotes there small meant aim unit.main (clear unit among) (come unit among);
-    links = λ one other here too i j. links-same law moves names meaning is files goal es target new_name sbytes sdenotes there small meant aim one.main other.main (clear one here) (clear other too) (come one here) (come other too) i j;
+  -- what a name that may be renamed decides
+  abbrev found_decides : Goal → List Entry → Target → Result Rename Refused
+  found_decides goal es found = or_refused (refusal_of_spelling meaning files goal (units_in es) found.key) >>= (λ spelled. Ok (rename_of meaning files goal es found))
+
+  units-keep : (goal : Goal) (es : List Entry) (target : Target) (sbytes : List ℕ) (sdenotes : List (Option Denotation)) → goal_of words ≡ Ok goal → files goal.source ≡ Some sbytes → meaning (lexed sbytes) ≡ Some sdenotes
+      → target_at goal.offset (lexed sbytes).tokens sdenotes ≡ Some target → refusal_of_units meaning files goal.source goal.new (units_in es) ≡ None → refusal_of_spelling meaning files goal (units_in es) target.key ≡ None → KeepsUnits files (rename_of meaning files goal es target) (units_in es)
+  units-keep goal es target sbytes sdenotes named there meant aim none spelled = record {
+    denotes = λ path. or_nothing (meaning (lexed (contents (files path))));
+    kept = λ unit among. file-kept law moves names meaning is files goal es target new_name sbytes sdenotes there small meant aim spelled unit.main (clear unit among) (come unit among);
+    links = λ one other here too i j. links-same law moves names meaning is files goal es target new_name sbytes sdenotes there small meant aim spelled one.main other.main (clear one here) (clear other too) (come one here) (come other too) i j;
   }
     where
       new_name : is_name goal.new ≡ true
       new_name = goal_named words goal named
 
-      small : IsSmallForm (cut 0 sbytes) sdenotes
-      small = subst (Resolves (cut 0 sbytes)) meant (is (cut 0 sbytes))
+      small : IsSmallForm (lexed sbytes) sdenotes
+      small = subst (Resolves (lexed sbytes)) meant (is (lexed sbytes))
 
       here : (unit : TranslationUnit) (k : ℕ) → k < length (units_in es) → get_or (units_in es) k unit ≡ unit → slice_get (units_in es) k ≡ Some unit
       here unit k l e = slice_get_read (units_in es) (length (units_in es)) k unit refl l (sym e)
@@ -491,22 +509,26 @@ module _ (law : RenamingKeepsMeaning) (moves : KeysMove) (names : NamesItsKey) (
       come : (unit : TranslationUnit) → Contains (units_in es) unit → list_any (bytes_eq unit.main) (files_so_far goal.source (units_in es)) ≡ true
       come unit (k, l, e) = met goal.source (units_in es) unit.main (in_mains (units_in es) k unit (here unit k l e))
 
-  of_refusal : (goal : Goal) (es : List Entry) (r : Rename) (target : Option Target) (sbytes : List ℕ) (sdenotes : List (Option Denotation)) → goal_of words ≡ Ok goal → entries_of files goal ≡ Ok es → files goal.source ≡ Some sbytes → meaning (cut 0 sbytes) ≡ Some sdenotes
-      → target_at goal.offset (cut 0 sbytes) sdenotes ≡ target → (o : Option Refused) → refusal_of_units meaning files goal.source goal.new (units_in es) ≡ o
-      → Ok r ≡ (or_refused o >>= (λ surveyed. renamable goal (units_in es) target >>= (λ found. Ok (rename_of meaning files goal es found)))) → Keeps words files r
+  of_refusal : (goal : Goal) (es : List Entry) (r : Rename) (target : Option Target) (sbytes : List ℕ) (sdenotes : List (Option Denotation)) → goal_of words ≡ Ok goal → entries_of files goal ≡ Ok es → files goal.source ≡ Some sbytes → meaning (lexed sbytes) ≡ Some sdenotes
+      → target_at goal.offset (lexed sbytes).tokens sdenotes ≡ target → (o : Option Refused) → refusal_of_units meaning files goal.source goal.new (units_in es) ≡ o
+      → Ok r ≡ (or_refused o >>= (λ surveyed. renamable goal (units_in es) target >>= found_decides goal es)) → Keeps words files r
   of_refusal goal es r target sbytes sdenotes named entries there meant aim (Some x) k e = let bad : ⊥ = cc in absurd bad
   of_refusal goal es r None sbytes sdenotes named entries there meant aim None k e = let bad : ⊥ = cc in absurd bad
   of_refusal goal es r (Some t) sbytes sdenotes named entries there meant aim None k e = by (is_main_source goal (units_in es)) (begins_with_underscore goal.new && t.at_file_scope) e
     where
-      by : (a b : Bool) → Ok r ≡ ((if a then (if b then reserved goal.new else Ok t) else refused 6 (codes "no symbol")) >>= (λ found. Ok (rename_of meaning files goal es found))) → Keeps words files r
+      places : (o : Option Refused) → refusal_of_spelling meaning files goal (units_in es) t.key ≡ o → Ok r ≡ (or_refused o >>= (λ spelled. Ok (rename_of meaning files goal es t))) → Keeps words files r
+      places (Some x) s f = let bad : ⊥ = cc in absurd bad
+      places None s f =
+          let same : r ≡ rename_of meaning files goal es t = cc in
+          (goal, named, es, entries, subst (λ x. KeepsUnits files x (units_in es)) (sym same) (units-keep goal es t sbytes sdenotes named there meant aim k s))
+
+      by : (a b : Bool) → Ok r ≡ ((if a then (if b then reserved goal.new else Ok t) else refused 6 (codes "no symbol")) >>= found_decides goal es) → Keeps words files r
       by false b f = let bad : ⊥ = cc in absurd bad
       by true true f = let bad : ⊥ = cc in absurd bad
-      by true false f =
-          let same : r ≡ rename_of meaning files goal es t = cc in
-          (goal, named, es, entries, subst (λ x. KeepsUnits files x (units_in es)) (sym same) (units-keep goal es t sbytes sdenotes named there meant aim k))
+      by true false f = places (refusal_of_spelling meaning files goal (units_in es) t.key) refl f
 
-  of_aim : (goal : Goal) (es : List Entry) (r : Rename) (sbytes : List ℕ) (sdenotes : List (Option Denotation)) → goal_of words ≡ Ok goal → entries_of files goal ≡ Ok es → files goal.source ≡ Some sbytes → meaning (cut 0 sbytes) ≡ Some sdenotes
-      → (target : Option Target) → target_at goal.offset (cut 0 sbytes) sdenotes ≡ target → Ok r ≡ (may_rename goal target >>= of_target meaning files goal es) → Keeps words files r
+  of_aim : (goal : Goal) (es : List Entry) (r : Rename) (sbytes : List ℕ) (sdenotes : List (Option Denotation)) → goal_of words ≡ Ok goal → entries_of files goal ≡ Ok es → files goal.source ≡ Some sbytes → meaning (lexed sbytes) ≡ Some sdenotes
+      → (target : Option Target) → target_at goal.offset (lexed sbytes).tokens sdenotes ≡ target → Ok r ≡ (may_rename goal target >>= of_target meaning files goal es) → Keeps words files r
   of_aim goal es r sbytes sdenotes named entries there meant None aim e = of_refusal goal es r None sbytes sdenotes named entries there meant aim (refusal_of_units meaning files goal.source goal.new (units_in es)) refl e
   of_aim goal es r sbytes sdenotes named entries there meant (Some t) aim e = by (bytes_eq t.name goal.new) (bytes_eq t.name (codes "main")) e
     where
@@ -518,18 +540,18 @@ module _ (law : RenamingKeepsMeaning) (moves : KeysMove) (names : NamesItsKey) (
   of_found : (goal : Goal) (es : List Entry) (r : Rename) → goal_of words ≡ Ok goal → entries_of files goal ≡ Ok es → (o : Option (List ℕ)) → files goal.source ≡ o → Ok r ≡ of_source meaning files goal es o → Keeps words files r
   of_found goal es r named entries None there e = by (refusal_of_units meaning files goal.source goal.new (units_in es)) e
     where
-      by : (o : Option Refused) → Ok r ≡ (or_refused o >>= (λ surveyed. renamable goal (units_in es) None >>= (λ found. Ok (rename_of meaning files goal es found)))) → Keeps words files r
+      by : (o : Option Refused) → Ok r ≡ (or_refused o >>= (λ surveyed. renamable goal (units_in es) None >>= found_decides goal es)) → Keeps words files r
       by None f = let bad : ⊥ = cc in absurd bad
       by (Some x) f = let bad : ⊥ = cc in absurd bad
   of_found goal es r named entries (Some bytes) there e = by (is_too_long (length bytes)) e
     where
-      text : (o : Option (List (Option Denotation))) → meaning (cut 0 bytes) ≡ o → Ok r ≡ of_meaning meaning files goal es (cut 0 bytes) o → Keeps words files r
+      text : (o : Option (List (Option Denotation))) → meaning (lexed bytes) ≡ o → Ok r ≡ of_meaning meaning files goal es (lexed bytes).tokens o → Keeps words files r
       text None m f = let bad : ⊥ = cc in absurd bad
-      text (Some ds) m f = of_aim goal es r bytes ds named entries there m (target_at goal.offset (cut 0 bytes) ds) refl f
+      text (Some ds) m f = of_aim goal es r bytes ds named entries there m (target_at goal.offset (lexed bytes).tokens ds) refl f
 
-      by : (b : Bool) → Ok r ≡ (if b then refused 19 (codes "limit: files") else of_text meaning files goal es (cut 0 bytes)) → Keeps words files r
+      by : (b : Bool) → Ok r ≡ (if b then refused 19 (codes "limit: files") else of_text meaning files goal es (lexed bytes)) → Keeps words files r
       by true f = let bad : ⊥ = cc in absurd bad
-      by false f = text (meaning (cut 0 bytes)) refl f
+      by false f = text (meaning (lexed bytes)) refl f
 
   of_listed : (goal : Goal) (r : Rename) → goal_of words ≡ Ok goal → (o : Result (List Entry) Refused) → entries_of files goal ≡ o → Ok r ≡ (o >>= of_entries meaning files goal) → Keeps words files r
   of_listed goal r named (Err x) entries e = let bad : ⊥ = cc in absurd bad

@@ -14,3 +14,4 @@ pub mod Decisions
 pub mod Ones
 pub mod TopLemmas
 pub mod Keepings
+pub mod Spelled

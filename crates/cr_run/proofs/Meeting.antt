@@ -22,6 +22,7 @@ if_limit_more P Q (refusal.Database text) more h = h
 if_limit_more P Q (refusal.ReadFault path) more h = h
 if_limit_more P Q refusal.NoSymbol more h = h
 if_limit_more P Q (refusal.Reserved name) more h = h
+if_limit_more P Q (refusal.Spelling place) more h = h
 if_limit_more P Q refusal.OutOfMemory more h = h
 if_limit_more P Q refusal.LimitUnits more h = h
 if_limit_more P Q refusal.LimitFiles more h = more h

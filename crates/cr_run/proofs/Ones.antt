@@ -8,7 +8,7 @@ use Rattle.cr_run.proofs.Meanings.{means}
 
 -- what texts mean is one
 pub meanings_one : DenotesOne → (one other : Meaning) → IsMeaning one → IsMeaning other → one ≡ other
-meanings_one law one other is too = fun_ext (λ tokens. means law one is tokens (other tokens) (too tokens))
+meanings_one law one other is too = fun_ext (λ text. means law one is text (other text) (too text))
 
 pub outcome_one : DenotesOne → OneOutcome
 outcome_one law words files one other (m, is, e) (n, too, f) = e ∙ ap (λ x. outcome x words files) (meanings_one law m n is too) ∙ sym f

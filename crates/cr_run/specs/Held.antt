@@ -1,6 +1,6 @@
 -- What the code holds of the files that it has read. No contract of a public call cites it.
 use Rattle.std.specs.Prelude.{ℕ, ◌+◌, ◌≡◌, ◌⊎◌, ◌<◌, ◌≤◌, true, false, List, [], ◌∷◌, length, bytes_eq, Option, Some, None, Result, Ok, Err}
-use Rattle.std.specs.Option.{option_map}
+use Rattle.std.specs.Option.{option_map, option_or}
 use Rattle.std.specs.List.{list_any}
 use Rattle.std.specs.BTreeMap.{keys, insert_entry}
 use Rattle.std.specs.Ordering.{nat_cmp}
@@ -9,7 +9,7 @@ use Rattle.cr_base.specs.declared.unit.Unit.{Unit as TranslationUnit}
 use Rattle.cr_world.specs.Outside.{Files}
 use Rattle.cr_small.specs.Keys.{Key, external, at}
 use Rattle.cr_small.specs.Seen.{key_of_code}
-use Rattle.cr_run.specs.Survey.{Meaning, files_so_far, total_size, is_over, is_clear_file, key_in, places_in_file, size_of, refusal_of_units}
+use Rattle.cr_run.specs.Survey.{Meaning, files_so_far, total_size, is_over, is_clear_file, key_in, places_in_file, unspellable_in_file, unspellable, size_of, refusal_of_units}
 use Rattle.cr_run.specs.Refusals.{IfDecided, refused_of}
 use Rattle.cr_small.specs.Renaming.{Target}
 use Rattle.cr_run.specs.Goal.{Goal, Refused}
@@ -46,6 +46,7 @@ IsNamed old key = (name : List ℕ) → key ≡ Some (external name) → name �
 pub record IsSurveyed (meaning : Meaning) (wanted : Wanted) (path : List ℕ) (found : Option (List ℕ)) (s : Surveyed) : Type 0 where
   pub clear : s.clear ≡ is_clear_file meaning wanted.new found
   pub places : s.places ≡ places_in_file meaning (key_at wanted path wanted.key) found
+  pub unspellable : s.unspellable ≡ unspellable_in_file meaning wanted.new (key_at wanted path wanted.key) found
   pub bytes : 0 < length s.places → found ≡ Some s.bytes
 
 abbrev pub AreSurveyed : Meaning → Wanted → Files → List (List ℕ × Surveyed) → Type 0
@@ -59,6 +60,11 @@ pub record Holds (meaning : Meaning) (files : Files) (wanted : Wanted) (units : 
   pub total : s.total ≡ total_size files (files_so_far wanted.source units)
   pub within : is_over files wanted.source units ≡ false
 
+-- the refusal of the first of the files that has a place at which the new name can't be spelled
+abbrev pub refusal_of_entries : List (List ℕ × Surveyed) → Option Refused
+refusal_of_entries [] = None
+refusal_of_entries (e ∷ es) = option_or (option_map (unspellable e.0) e.1.unspellable) (refusal_of_entries es)
+
 -- a fact of a refusal by a limit of files, and none of any other that is decided
 abbrev pub IfLimit : Type 0 → Refusal → Type 0
 IfLimit P (refusal.Usage word) = ⊥
@@ -66,6 +72,7 @@ IfLimit P (refusal.Database text) = ⊥
 IfLimit P (refusal.ReadFault path) = Unit {0}
 IfLimit P refusal.NoSymbol = ⊥
 IfLimit P (refusal.Reserved name) = ⊥
+IfLimit P (refusal.Spelling place) = ⊥
 IfLimit P refusal.OutOfMemory = Unit {0}
 IfLimit P refusal.LimitUnits = ⊥
 IfLimit P refusal.LimitFiles = P

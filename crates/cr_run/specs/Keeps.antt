@@ -6,7 +6,7 @@ use Rattle.cr_base.specs.Substitution.{offsets_in}
 use Rattle.cr_base.specs.declared.unit.Unit.{Unit as TranslationUnit}
 use Rattle.cr_world.specs.Outside.{Files}
 use Rattle.cr_compdb.specs.declared.entry.Entry.{Entry}
-use Rattle.cr_small.specs.Tokens.{Token, cut}
+use Rattle.cr_lex.specs.Lexing.{Token, lexed}
 use Rattle.cr_small.specs.Keys.{Key, external, at, key_of}
 use Rattle.cr_small.specs.KeepsMeaning.{KeepsMeaning}
 use Rattle.cr_small.specs.declared.binder.Denotation.{Denotation}
@@ -27,7 +27,7 @@ entity_key path (external name) = named name
 entity_key path (at offset) = at_place path offset
 
 abbrev pub tokens_at : Files → List ℕ → List Token
-tokens_at files path = cut 0 (contents (files path))
+tokens_at files path = (lexed (contents (files path))).tokens
 
 -- the token with this number, of the file at a path, denotes an entity of this key
 abbrev pub IsKeyed : Files → (List ℕ → List (Option Denotation)) → List ℕ → ℕ → EntityKey → Type 0
@@ -45,7 +45,7 @@ pub record KeepsFile (files : Files) (r : Rename) (path : List ℕ) (denotes : L
   pub after : List ℕ
   pub was : files path ≡ Some before
   pub is : renamed_files r files path ≡ Some after
-  pub kept : KeepsMeaning (cut 0 before) (cut 0 after) (offsets_in path (places r)) r.old r.new
+  pub kept : KeepsMeaning (lexed before) (lexed after) (offsets_in path (places r)) r.old r.new
   pub means : kept.denotes ≡ denotes
 
 -- the main file of each unit keeps its meaning, and two tokens of any two units are linked just where they were

@@ -4,14 +4,14 @@ use Rattle.std.specs.List.{filter, list_any}
 use Rattle.cr_base.specs.declared.unit.Unit.{Unit as TranslationUnit}
 use Rattle.cr_world.specs.Outside.{Files}
 use Rattle.cr_compdb.specs.declared.entry.Entry.{Entry}
-use Rattle.cr_small.specs.Tokens.{Token, cut}
+use Rattle.cr_lex.specs.Lexing.{Token, Lexed, lexed}
 use Rattle.cr_small.specs.Keys.{Key}
 use Rattle.cr_small.specs.Renaming.{Target, target_at}
 use Rattle.cr_small.specs.declared.binder.Denotation.{Denotation}
 use Rattle.cr_run.specs.Goal.{Goal, Refused, refused, unbuilt, reserved, goal_of, ◌>>=◌}
 use Rattle.cr_run.specs.Units.{entries_of, units_in, skips_in, mains, IsMain}
 use Rattle.cr_run.specs.Renames.{FileEdit, Rename}
-use Rattle.cr_run.specs.Survey.{Meaning, IsMeaning, is_too_long, files_so_far, refusal_of_units, places_at}
+use Rattle.cr_run.specs.Survey.{Meaning, IsMeaning, is_too_long, files_so_far, refusal_of_units, places_at, unspellable_at, refusal_of_places}
 
 abbrev pub Outcome : Type 0
 Outcome = Result Rename Refused
@@ -76,11 +76,16 @@ rename_of meaning files goal entries target = record {
   in_place = goal.in_place;
 }
 
+-- The new name must be spellable at each place of an entity of the source, in the files of the units.
+abbrev pub refusal_of_spelling : Meaning → Files → Goal → List TranslationUnit → Key → Option Refused
+refusal_of_spelling meaning files goal units key = refusal_of_places (unspellable_at meaning files goal.source goal.new key) (files_so_far goal.source units)
+
 -- what the entries and what stands at the offset decide
 abbrev pub of_target : Meaning → Files → Goal → List Entry → Option Target → Outcome
 of_target meaning files goal entries target = do
   surveyed ← or_refused (refusal_of_units meaning files goal.source goal.new (units_in entries))
   found ← renamable goal (units_in entries) target
+  spelled ← or_refused (refusal_of_spelling meaning files goal (units_in entries) found.key)
   Ok (rename_of meaning files goal entries found)
 
 -- what stands at the offset of a source of the small form
@@ -94,14 +99,14 @@ of_meaning meaning files goal entries tokens None = unbuilt goal.source
 of_meaning meaning files goal entries tokens (Some denotes) = of_denotes meaning files goal entries tokens denotes
 
 -- a source that isn't of the small form is unbuilt
-abbrev pub of_text : Meaning → Files → Goal → List Entry → List Token → Outcome
-of_text meaning files goal entries tokens = of_meaning meaning files goal entries tokens (meaning tokens)
+abbrev pub of_text : Meaning → Files → Goal → List Entry → Lexed → Outcome
+of_text meaning files goal entries text = of_meaning meaning files goal entries text.tokens (meaning text)
 
 -- in a source that is absent nothing stands at an offset
 abbrev pub of_source : Meaning → Files → Goal → List Entry → Option (List ℕ) → Outcome
 of_source meaning files goal entries None = of_target meaning files goal entries None
 of_source meaning files goal entries (Some bytes) =
-    if is_too_long (length bytes) then limit_files else of_text meaning files goal entries (cut 0 bytes)
+    if is_too_long (length bytes) then limit_files else of_text meaning files goal entries (lexed bytes)
 
 -- what the entries decide, by the source
 abbrev pub of_entries : Meaning → Files → Goal → List Entry → Outcome

@@ -31,6 +31,7 @@ HasReadCause Caused (Err (refusal.Database text)) = Unit {0}
 HasReadCause Caused (Err (refusal.ReadFault path)) = Caused path
 HasReadCause Caused (Err refusal.NoSymbol) = Unit {0}
 HasReadCause Caused (Err (refusal.Reserved name)) = Unit {0}
+HasReadCause Caused (Err (refusal.Spelling place)) = Unit {0}
 HasReadCause Caused (Err refusal.OutOfMemory) = Unit {0}
 HasReadCause Caused (Err refusal.LimitUnits) = Unit {0}
 HasReadCause Caused (Err refusal.LimitFiles) = Unit {0}

@@ -1,5 +1,5 @@
 -- The files of the translation units, and what each is found to be. Our own rules.
-use Rattle.std.specs.Prelude.{ℕ, ◌+◌, ◌*◌, zero, suc, Bool, true, false, not, ◌&&◌, ◌||◌, List, [], ◌∷◌, ◌++◌, length, take, drop, fold, Option, Some, None, is_some, if◌then◌else◌, nat_lt, bytes_eq, codes}
+use Rattle.std.specs.Prelude.{ℕ, ◌+◌, ◌*◌, zero, suc, Bool, true, false, not, ◌&&◌, ◌||◌, List, [], ◌∷◌, ◌++◌, length, take, drop, fold, Option, Some, None, is_some, if◌then◌else◌, nat_lt, bytes_eq, codes, decimal}
 use Rattle.std.specs.Option.{option_map, option_or}
 use Rattle.std.specs.List.{list_any, find, sum_by}
 use Rattle.std.specs.Int.{div_ceil}
@@ -7,20 +7,20 @@ use Rattle.std.specs.Ordering.{nat_cmp, match_ordering}
 use Rattle.std.specs.Cmp.Lexicographic.{slice_cmp}
 use Rattle.cr_base.specs.declared.unit.Unit.{Unit as TranslationUnit}
 use Rattle.cr_world.specs.Outside.{Files}
-use Rattle.cr_small.specs.Tokens.{Token, cut}
+use Rattle.cr_lex.specs.Lexing.{Token, Lexed, lexed}
 use Rattle.cr_small.specs.SmallForm.{Resolves}
 use Rattle.cr_small.specs.Keys.{Key, external, at}
-use Rattle.cr_small.specs.Renaming.{places_of, has_text}
+use Rattle.cr_small.specs.Renaming.{places_of, first_unspellable, has_text}
 use Rattle.cr_small.specs.declared.binder.Denotation.{Denotation}
 use Rattle.cr_run.specs.Goal.{Refused}
 use Rattle.cr_run.specs.Units.{mains}
 
 -- what the tokens of each text denote, if it is of the small form
 abbrev pub Meaning : Type 0
-Meaning = List Token → Option (List (Option Denotation))
+Meaning = Lexed → Option (List (Option Denotation))
 
 abbrev pub IsMeaning : Meaning → Type 0
-IsMeaning meaning = (tokens : List Token) → Resolves tokens (meaning tokens)
+IsMeaning meaning = (text : Lexed) → Resolves text (meaning text)
 
 -- a path put where it belongs in the order of bytes
 abbrev pub insert_path : List ℕ → List (List ℕ) → List (List ℕ)
@@ -60,12 +60,12 @@ is_over files source units =
     || nat_lt 536870912 (total_size files (files_so_far source units))
 
 -- a text of the small form in which no token is spelled as the new name
-abbrev pub is_clear_text : Meaning → List ℕ → List Token → Bool
-is_clear_text meaning new tokens = is_some (meaning tokens) && not (has_text new tokens)
+abbrev pub is_clear_text : Meaning → List ℕ → Lexed → Bool
+is_clear_text meaning new text = is_some (meaning text) && not (has_text new text.tokens)
 
 abbrev pub is_clear_file : Meaning → List ℕ → Option (List ℕ) → Bool
 is_clear_file meaning new None = false
-is_clear_file meaning new (Some bytes) = is_clear_text meaning new (cut 0 bytes)
+is_clear_file meaning new (Some bytes) = is_clear_text meaning new (lexed bytes)
 
 abbrev pub is_empty : List ℕ → Bool
 is_empty [] = true
@@ -113,8 +113,32 @@ places_in_text (Some key) tokens (Some denotes) = places_of key tokens denotes
 
 abbrev pub places_in_file : Meaning → Option Key → Option (List ℕ) → List ℕ
 places_in_file meaning key None = []
-places_in_file meaning key (Some bytes) = places_in_text key (cut 0 bytes) (meaning (cut 0 bytes))
+places_in_file meaning key (Some bytes) = places_in_text key (lexed bytes).tokens (meaning (lexed bytes))
 
 -- the places, in the file at a path, of an entity of the source with this key
 abbrev pub places_at : Meaning → Files → List ℕ → Key → List ℕ → List ℕ
 places_at meaning files source key path = places_in_file meaning (key_in source key path) (files path)
+
+abbrev pub unspellable_in_text : List ℕ → List ℕ → Option Key → List Token → Option (List (Option Denotation)) → Option ℕ
+unspellable_in_text bytes new None tokens denotes = None
+unspellable_in_text bytes new (Some key) tokens None = None
+unspellable_in_text bytes new (Some key) tokens (Some denotes) = first_unspellable bytes new key tokens denotes
+
+abbrev pub unspellable_in_file : Meaning → List ℕ → Option Key → Option (List ℕ) → Option ℕ
+unspellable_in_file meaning new key None = None
+unspellable_in_file meaning new key (Some bytes) = unspellable_in_text bytes new key (lexed bytes).tokens (meaning (lexed bytes))
+
+-- the first of those places at which the new name can't be spelled
+abbrev pub unspellable_at : Meaning → Files → List ℕ → List ℕ → Key → List ℕ → Option ℕ
+unspellable_at meaning files source new key path = unspellable_in_file meaning new (key_in source key path) (files path)
+
+abbrev pub place_text : List ℕ → ℕ → List ℕ
+place_text path offset = path ++ 58 ∷ decimal offset
+
+abbrev pub unspellable : List ℕ → ℕ → Refused
+unspellable path offset = record { status = 12; text = codes "spelling: " ++ place_text path offset }
+
+-- the refusal of the first place, in the order of the paths, at which the new name can't be spelled
+abbrev pub refusal_of_places : (List ℕ → Option ℕ) → List (List ℕ) → Option Refused
+refusal_of_places first [] = None
+refusal_of_places first (path ∷ paths) = option_or (option_map (unspellable path) (first path)) (refusal_of_places first paths)

@@ -9,7 +9,7 @@ Holds now files = (told : Files) × (now ≡ Some told) × ((path : List ℕ) �
 
 -- a status of a refusal that the words and the files decide
 abbrev pub IsDecided : ℕ → Type 0
-IsDecided status = (status ≡ 2) ⊎ (status ≡ 3) ⊎ (status ≡ 6) ⊎ (status ≡ 7) ⊎ (status ≡ 19) ⊎ (status ≡ 20)
+IsDecided status = (status ≡ 2) ⊎ (status ≡ 3) ⊎ (status ≡ 6) ⊎ (status ≡ 7) ⊎ (status ≡ 12) ⊎ (status ≡ 19) ⊎ (status ≡ 20)
 
 -- no count of failed calls rose
 abbrev pub NoneRose : Counts → Counts → Type 0

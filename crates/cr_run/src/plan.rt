@@ -3,9 +3,9 @@ ghost use Rattle.std.specs.Prelude.{◌≡◌, ◌≤◌, List, ℕ, Bool, map, 
 ghost use Rattle.std.specs.Option.{option_map};
 ghost use Rattle.cr_compdb.specs.declared.entry.Entry.{Entry as EntryOf};
 ghost use Rattle.cr_world.specs.Outside.{Files, Rose};
-ghost use Rattle.cr_small.specs.Seen.{token_of, key_of_code, target_of_code};
-ghost use Rattle.cr_small.specs.Tokens.{cut};
-ghost use Rattle.cr_small.specs.SmallForm.{IsSmallForm};
+ghost use Rattle.cr_small.specs.Seen.{key_of_code, target_of_code};
+ghost use Rattle.cr_lex.specs.Lexing.{lexed};
+ghost use Rattle.cr_small.specs.Texts.{IsTextOf};
 ghost use Rattle.cr_small.specs.Renaming as renaming;
 ghost use Rattle.cr_run.specs.Units.{IsMain};
 ghost use Rattle.cr_run.specs.Survey.{Meaning, IsMeaning, size_of};
@@ -23,13 +23,11 @@ use crate::entries::read_entries;
 use crate::goal::{Goal, read_goal};
 use crate::refusal::Refusal;
 use crate::report::{Head, report};
-use crate::survey::{MAX_FILE, SmallText, Sought, Survey, Surveyed};
+use crate::survey::{MAX_FILE, Sought, Survey, Surveyed};
 use crate::units::Entries;
 use crate::write::{Write, writes_of};
 use cr_base::{OutOfMemory, Unit};
-use cr_small::{
-    EntityKey, Target, a_target_names_its_key, cut, denotations_are_one, resolve, target_at,
-};
+use cr_small::{EntityKey, SmallText, Target, a_target_names_its_key, denotations_are_one};
 use cr_world::{ReadEnd, Tree};
 use std::alloc::Global;
 
@@ -132,21 +130,15 @@ fn plan_source<'a, T: Tree>(
     ensures writes { IfOk result (λ plan. AreWrites plan.writes.items) }
     ensures reads { ReadsOnly (T.files tree.old) (T.files tree.new) (T.reads tree.old) (T.reads tree.new) (T.replaces tree.old) (T.replaces tree.new) }
     ensures decided { (meaning : Meaning) (files : Files) (es : List EntryOf) → IsMeaning meaning → T.files tree.old ≡ Some files → AreParted es entries.now → files goal.now.source ≡ Some bytes.now
-        → Plans files (spec.of_text meaning files (goal_of_code goal.now) es (cut 0 bytes.now)) result }
+        → Plans files (spec.of_text meaning files (goal_of_code goal.now) es (lexed bytes.now)) result }
     ensures cause { HasReadCause (λ path. Rose (T.reads tree.old path) (T.reads tree.new path)
         × IsMain entries.now.units.items path) result }
 {
     denotations_are_one();
-    let tokens = cut(alloc, bytes)?;
-    let Some(denotes) = resolve(alloc, &tokens)? else {
+    let Some(text) = SmallText::read(alloc, bytes)? else {
         return Err(Refusal::Unbuilt(goal.source.copy(alloc)?));
     };
-    let text = SmallText {
-        bytes,
-        tokens: &tokens,
-        denotes: &denotes,
-    };
-    plan_text(alloc, tree, goal, entries, &text)
+    plan_text(alloc, tree, goal, entries, bytes, &text)
 }
 
 // What a source of the small form decides.
@@ -155,24 +147,24 @@ fn plan_text<'a, T: Tree>(
     tree: &mut T,
     goal: &Goal<'a>,
     entries: &Entries,
+    bytes: &[u8],
     text: &SmallText,
 ) -> Result<Plan, Refusal<'a>>
-    requires size { length text.now.bytes.now ≤ 16777216 }
-    requires length { length text.now.denotes.now ≡ length text.now.tokens.now }
-    requires tokens { map token_of text.now.tokens.now ≡ cut 0 text.now.bytes.now }
-    requires small { IsSmallForm (cut 0 text.now.bytes.now) text.now.denotes.now }
+    requires size { length bytes.now ≤ 16777216 }
+    requires text { IsTextOf bytes.now text.now }
     ensures writes { IfOk result (λ plan. AreWrites plan.writes.items) }
     ensures reads { ReadsOnly (T.files tree.old) (T.files tree.new) (T.reads tree.old) (T.reads tree.new) (T.replaces tree.old) (T.replaces tree.new) }
-    ensures decided { (meaning : Meaning) (files : Files) (es : List EntryOf) → IsMeaning meaning → T.files tree.old ≡ Some files → AreParted es entries.now → files goal.now.source ≡ Some text.now.bytes.now
-        → meaning (cut 0 text.now.bytes.now) ≡ Some text.now.denotes.now
-        → Plans files (spec.of_denotes meaning files (goal_of_code goal.now) es (cut 0 text.now.bytes.now) text.now.denotes.now) result }
+    ensures decided { (meaning : Meaning) (files : Files) (es : List EntryOf) → IsMeaning meaning → T.files tree.old ≡ Some files → AreParted es entries.now → files goal.now.source ≡ Some bytes.now
+        → meaning (lexed bytes.now) ≡ Some text.now.denotes
+        → Plans files (spec.of_denotes meaning files (goal_of_code goal.now) es (lexed bytes.now).tokens text.now.denotes) result }
     ensures cause { HasReadCause (λ path. Rose (T.reads tree.old path) (T.reads tree.new path)
         × IsMain entries.now.units.items path) result }
 {
-    let target = target_at(text.tokens, text.denotes, goal.offset as usize);
+    let target = text.target_at(goal.offset as usize);
     may_rename(goal, &target)?;
-    let survey = survey_from(alloc, tree, goal, &entries.units, text, &target)?;
+    let survey = survey_from(alloc, tree, goal, &entries.units, bytes, text, &target)?;
     let target = renamable(goal, &entries.units, target)?;
+    survey.spell(alloc)?;
     let plan = planned(alloc, goal, entries, &survey, &target)?;
     Ok(plan)
 }
@@ -207,17 +199,16 @@ fn survey_from<'a, T: Tree>(
     tree: &mut T,
     goal: &Goal<'_>,
     units: &[Unit],
+    bytes: &[u8],
     text: &SmallText,
     target: &Option<Target<'_>>,
 ) -> Result<Survey, Refusal<'a>>
-    requires size { length text.now.bytes.now ≤ 16777216 }
-    requires length { length text.now.denotes.now ≡ length text.now.tokens.now }
-    requires tokens { map token_of text.now.tokens.now ≡ cut 0 text.now.bytes.now }
-    requires small { IsSmallForm (cut 0 text.now.bytes.now) text.now.denotes.now }
-    requires target { option_map target_of_code target.now ≡ renaming.target_at goal.now.offset (cut 0 text.now.bytes.now) text.now.denotes.now }
+    requires size { length bytes.now ≤ 16777216 }
+    requires text { IsTextOf bytes.now text.now }
+    requires target { option_map target_of_code target.now ≡ renaming.target_at goal.now.offset (lexed bytes.now).tokens text.now.denotes }
     ensures reads { ReadsOnly (T.files tree.old) (T.files tree.new) (T.reads tree.old) (T.reads tree.new) (T.replaces tree.old) (T.replaces tree.new) }
-    ensures surveyed { (meaning : Meaning) (files : Files) → IsMeaning meaning → T.files tree.old ≡ Some files → files goal.now.source ≡ Some text.now.bytes.now
-        → meaning (cut 0 text.now.bytes.now) ≡ Some text.now.denotes.now
+    ensures surveyed { (meaning : Meaning) (files : Files) → IsMeaning meaning → T.files tree.old ≡ Some files → files goal.now.source ≡ Some bytes.now
+        → meaning (lexed bytes.now) ≡ Some text.now.denotes
         → SurveysTo meaning files (wanted_for (goal_of_code goal.now) (option_map target_of_code target.now)) units.now result }
     ensures rises { IfOk result (λ survey. (t : renaming.Target) → option_map target_of_code target.now ≡ Some t → AllRise t.name survey.files.entries) }
     ensures cause { HasReadCause (λ path. Rose (T.reads tree.old path) (T.reads tree.new path) × IsMain units.now path) result }
@@ -229,8 +220,8 @@ fn survey_from<'a, T: Tree>(
         key: key_of(target),
         new: goal.new,
     };
-    let found = Surveyed::of(alloc, &sought, sought.key, text)?;
-    let mut survey = Survey::start(alloc, goal.source.copy(alloc)?, found, text.bytes.len())?;
+    let found = Surveyed::of(alloc, &sought, sought.key, bytes, text)?;
+    let mut survey = Survey::start(alloc, goal.source.copy(alloc)?, found, bytes.len())?;
     survey.read_units(alloc, tree, &sought, units)?;
     Ok(survey)
 }

@@ -3,26 +3,24 @@ ghost use Rattle.std.specs.Prelude.{◌≡◌, ◌≤◌, ◌<◌, ◌++◌, ◌
 ghost use Rattle.std.specs.Option.{option_map};
 ghost use Rattle.cr_base.specs.declared.unit.Unit.{Unit as UnitOf};
 ghost use Rattle.cr_world.specs.Outside.{Files, Rose};
-ghost use Rattle.cr_small.specs.Seen.{token_of, key_of_code};
+ghost use Rattle.cr_small.specs.Seen.{tokens_of, key_of_code};
 ghost use Rattle.cr_base.specs.Substitution.{Rise};
-ghost use Rattle.cr_small.specs.Tokens.{cut};
+ghost use Rattle.cr_lex.specs.Lexing.{lexed};
 ghost use Rattle.cr_small.specs.Keys.{Key};
-ghost use Rattle.cr_small.specs.SmallForm.{IsSmallForm};
 ghost use Rattle.cr_small.specs.Laws.{IsNameOf};
+ghost use Rattle.cr_small.specs.Texts.{IsTextOf};
 ghost use Rattle.cr_run.specs.Editing.{AllRise};
 ghost use Rattle.cr_run.specs.Survey as spec;
 ghost use Rattle.cr_run.specs.Survey.{Meaning, IsMeaning};
 ghost use Rattle.cr_run.specs.Reading.{ReadsOnly, HasReadCause};
 ghost use Rattle.cr_run.specs.Units.{mains, IsMain};
 ghost use Rattle.std.specs.List.{list_any};
-ghost use Rattle.cr_run.specs.Held.{Wanted, wanted_of, key_at, key_elsewhere, IsNamed, IsSurveyed, Holds, Adds, Added, AllMet, Met, Settled, Surveys};
+ghost use Rattle.cr_run.specs.Held.{Wanted, wanted_of, key_at, key_elsewhere, IsNamed, IsSurveyed, Holds, Adds, Added, AllMet, Met, Settled, Surveys, refusal_of_entries};
 
+use crate::number::push_number;
 use crate::refusal::Refusal;
-use cr_base::{List, OutOfMemory, PathText, Unit};
-use cr_small::{
-    Denotation, EntityKey, Token, cut, denotations_are_one, has_text, places_of, places_rise,
-    resolve,
-};
+use cr_base::{List, OutOfMemory, PathText, Text, Unit};
+use cr_small::{EntityKey, SmallText, denotations_are_one, places_rise};
 use cr_world::{ReadEnd, Tree};
 use std::alloc::Global;
 use std::collections::BTreeMap;
@@ -44,20 +42,13 @@ pub struct Sought<'a, 'b> {
 }
 
 /// What a file is found to be: whether it is of the small form without the new name, where the entity stands in it,
-/// and its bytes where it does.
+/// the first of these places at which the new name can't be spelled, and its bytes where it stands there.
 #[derive(Drop)]
 pub struct Surveyed {
     pub clear: bool,
     pub places: List<usize>,
+    pub unspellable: Option<usize>,
     pub bytes: List<u8>,
-}
-
-/// A text of the small form, with its tokens and what each of them denotes.
-#[derive(Clone, Copy)]
-pub struct SmallText<'a> {
-    pub bytes: &'a [u8],
-    pub tokens: &'a [Token<'a>],
-    pub denotes: &'a [Option<Denotation>],
 }
 
 impl<'a, 'b> Sought<'a, 'b> {
@@ -81,32 +72,33 @@ impl Surveyed {
         Surveyed {
             clear: false,
             places: List::of(Vec::new(alloc)),
+            unspellable: None,
             bytes: List::of(Vec::new(alloc)),
         }
     }
 
-    /// A text of the small form, in which the entity has this key.
+    /// A text of the small form of these bytes, in which the entity has this key.
     pub fn of(
         alloc: Global,
         sought: &Sought,
         key: Option<EntityKey>,
+        bytes: &[u8],
         text: &SmallText,
     ) -> Result<Surveyed, OutOfMemory>
-        requires length { length text.now.denotes.now ≡ length text.now.tokens.now }
-        requires tokens { map token_of text.now.tokens.now ≡ cut 0 text.now.bytes.now }
-        requires small { IsSmallForm (cut 0 text.now.bytes.now) text.now.denotes.now }
-        requires named { (k : Key) → option_map key_of_code key ≡ Some k → IsNameOf sought.now.old.now k (cut 0 text.now.bytes.now) text.now.denotes.now }
-        ensures surveyed { IfOk result (λ made. (meaning : Meaning) (wanted : Wanted) (path : List ℕ) → meaning (cut 0 text.now.bytes.now) ≡ Some text.now.denotes.now
-            → wanted.new ≡ sought.now.new.now → key_at wanted path wanted.key ≡ option_map key_of_code key.entry → IsSurveyed meaning wanted path (Some text.now.bytes.now) made) }
+        requires text { IsTextOf bytes.now text.now }
+        requires named { (k : Key) → option_map key_of_code key ≡ Some k → IsNameOf sought.now.old.now k (lexed bytes.now).tokens text.now.denotes }
+        ensures surveyed { IfOk result (λ made. (meaning : Meaning) (wanted : Wanted) (path : List ℕ) → meaning (lexed bytes.now) ≡ Some text.now.denotes
+            → wanted.new ≡ sought.now.new.now → key_at wanted path wanted.key ≡ option_map key_of_code key.entry → IsSurveyed meaning wanted path (Some bytes.now) made) }
         ensures rises { IfOk result (λ made. Rise 0 made.places (length sought.now.old.now) (length made.bytes)) }
     {
         places_rise();
         let places = places_in(alloc, key, text)?;
-        let bytes = bytes_for(alloc, &places, text.bytes)?;
+        let kept = bytes_for(alloc, &places, bytes)?;
         Ok(Surveyed {
-            clear: !has_text(text.tokens, sought.new),
+            clear: !text.has_text(sought.new),
             places: List::of(places),
-            bytes: List::of(bytes),
+            unspellable: unspellable_in(bytes, sought.new, key, text),
+            bytes: List::of(kept),
         })
     }
 
@@ -119,18 +111,8 @@ impl Surveyed {
         ensures rises { IfOk result (λ made. Rise 0 made.places (length sought.now.old.now) (length made.bytes)) }
     {
         denotations_are_one();
-        let tokens = cut(alloc, bytes)?;
-        match resolve(alloc, &tokens)? {
-            Some(denotes) => Surveyed::of(
-                alloc,
-                sought,
-                sought.key_elsewhere(),
-                &SmallText {
-                    bytes,
-                    tokens: &tokens,
-                    denotes: &denotes,
-                },
-            ),
+        match SmallText::read(alloc, bytes)? {
+            Some(text) => Surveyed::of(alloc, sought, sought.key_elsewhere(), bytes, &text),
             None => Ok(Surveyed::unclear(alloc)),
         }
     }
@@ -141,13 +123,26 @@ fn places_in(
     key: Option<EntityKey>,
     text: &SmallText,
 ) -> Result<Vec<usize>, OutOfMemory>
-    requires { length text.now.denotes.now ≡ length text.now.tokens.now }
-    ensures { IfOk result (λ places. places.items ≡ spec.places_in_text (option_map key_of_code key.entry) (map token_of text.now.tokens.now) (Some text.now.denotes.now)) }
+    requires { length text.now.denotes ≡ length text.now.tokens }
+    ensures { IfOk result (λ places. places.items ≡ spec.places_in_text (option_map key_of_code key.entry) (tokens_of text.now) (Some text.now.denotes)) }
 {
     match key {
-        Some(key) => places_of(alloc, text.tokens, text.denotes, key),
+        Some(key) => text.places_of(alloc, key),
         None => Ok(Vec::new(alloc)),
     }
+}
+
+// The first place of the entity at which the new name can't be spelled.
+fn unspellable_in(
+    bytes: &[u8],
+    new: &[u8],
+    key: Option<EntityKey>,
+    text: &SmallText,
+) -> Option<usize>
+    requires { IsTextOf bytes.now text.now }
+    ensures { result ≡ spec.unspellable_in_text bytes.now new.now (option_map key_of_code key.entry) (tokens_of text.now) (Some text.now.denotes) }
+{
+    text.first_unspellable(bytes, new, key?)
 }
 
 // A file in which nothing changes need not be kept.
@@ -293,6 +288,19 @@ impl Survey {
         Ok(())
     }
 
+    /// The first place at which the new name can't be spelled refuses.
+    pub fn spell<'a>(&self, alloc: Global) -> Result<(), Refusal<'a>>
+        ensures settled { Settled (refusal_of_entries self.now.files.entries) result }
+        ensures cause { HasReadCause (λ path. ⊥) result }
+    {
+        for (path, found) in self.files.iter() {
+            if let Some(offset) = found.unspellable {
+                return Err(Refusal::Spelling(place_text(alloc, path, offset)?));
+            }
+        }
+        Ok(())
+    }
+
     // The first unit of a batch that isn't clear refuses.
     fn settle<'a>(&self, alloc: Global, batch: &[Unit]) -> Result<(), Refusal<'a>>
         ensures settled { (meaning : Meaning) (files : Files) (s : Wanted) (units : List UnitOf) → Holds meaning files s units self.now
@@ -332,4 +340,14 @@ fn has_no_words(unit: &Unit) -> bool
         [] => true,
         _ => false,
     }
+}
+
+// A place of a file, with a colon before the offset.
+fn place_text(alloc: Global, path: &PathText, offset: usize) -> Result<Text, OutOfMemory>
+    ensures { IfOk result (λ text. text ≡ spec.place_text path.now offset) }
+{
+    let mut text = path.bytes().to_vec(alloc)?;
+    text.extend_from_slice(b":")?;
+    push_number(alloc, &mut text, offset)?;
+    Text::new(alloc, &text)
 }

@@ -20,6 +20,11 @@ const HIDDEN_REPORT: &[u8] =
 const INNER_REPORT: &[u8] =
     b"renamed x to z\nunits 1, skipped 0, files 1, edits 2\nedit a.c 22\nedit a.c 33\nfile a.c 44\nint x;int f(void){int z=1;return z;}int y=x;\n";
 
+const COMMENTED: &[u8] = b"int/* foo */foo;// foo\nint f(void){return \\\nfoo;}\n";
+
+const COMMENTED_REPORT: &[u8] =
+    b"renamed foo to bar\nunits 1, skipped 0, files 1, edits 2\nedit a.c 12\nedit a.c 44\nfile a.c 50\nint/* foo */bar;// foo\nint f(void){return \\\nbar;}\n\n";
+
 const UNBUILT: &[u8] = b"crename: unbuilt: a.c\n";
 
 const NO_SYMBOL: &[u8] = b"crename: no symbol\n";
@@ -83,6 +88,81 @@ fn holds(alloc: Global, tree: &MemTree, path: &str, text: &[u8]) -> Result<bool,
     }
 }
 
+// Words, their status and the line on `err`.
+const REFUSED_WORDS: [(&str, u8, &[u8]); 19] = [
+    ("--frob", 2, b"crename: usage: --frob\n"),
+    (
+        "a.c --offset 4 --offset 5",
+        2,
+        b"crename: usage: --offset\n",
+    ),
+    (
+        "a.c --offset 4 --new-name while",
+        7,
+        b"crename: reserved: while\n",
+    ),
+    (
+        "a.c --offset 4 --new-name __x",
+        7,
+        b"crename: reserved: __x\n",
+    ),
+    (
+        "a.c --offset 4 --new-name _X",
+        7,
+        b"crename: reserved: _X\n",
+    ),
+    (
+        "a.c --offset 4 --new-name defined",
+        7,
+        b"crename: reserved: defined\n",
+    ),
+    (
+        "a.c --offset 4 --new-name 9a",
+        7,
+        b"crename: reserved: 9a\n",
+    ),
+    ("a.c --offset 4 --new-name ", 7, b"crename: reserved: \n"),
+    (
+        "a.c --offset 4 --new-name main",
+        7,
+        b"crename: reserved: main\n",
+    ),
+    (
+        "a.c --offset 4 --new-name foo",
+        7,
+        b"crename: reserved: foo\n",
+    ),
+    (
+        "a.c --offset 4 --new-name _x",
+        7,
+        b"crename: reserved: _x\n",
+    ),
+    (
+        "a.c --offset 29 --new-name bar",
+        7,
+        b"crename: reserved: main\n",
+    ),
+    ("a.c --offset 3 --new-name bar", 6, NO_SYMBOL),
+    ("a.c --offset 7 --new-name bar", 6, NO_SYMBOL),
+    ("a.c --offset 55 --new-name bar", 6, NO_SYMBOL),
+    (
+        "b.c --offset 4 --new-name bar",
+        20,
+        b"crename: unbuilt: b.c\n",
+    ),
+    (
+        "-p db --qualified-name foo --new-name bar",
+        20,
+        b"crename: unbuilt: --qualified-name\n",
+    ),
+    (
+        "--root /w a.c --offset 4 --new-name bar",
+        20,
+        b"crename: unbuilt: --root\n",
+    ),
+    ("--generate 5", 20, b"crename: unbuilt: --generate\n"),
+];
+
 #[test]
 fn words_and_names_are_refused_with_their_line(rt: HostRuntime) -> Result<(), Fail> {
     let alloc = rt.alloc();
@@ -94,157 +174,128 @@ fn words_and_names_are_refused_with_their_line(rt: HostRuntime) -> Result<(), Fa
     let status = crename_serial(alloc, &none, &mut tree, &mut out, &mut err);
     assert_eq!(rt; status, 2);
     assert_eq!(rt; err.bytes(), b"crename: usage: --new-name\n".as_slice());
-    let cases: [(&str, u8, &[u8]); 19] = [
-        ("--frob", 2, b"crename: usage: --frob\n"),
-        (
-            "a.c --offset 4 --offset 5",
-            2,
-            b"crename: usage: --offset\n",
-        ),
-        (
-            "a.c --offset 4 --new-name while",
-            7,
-            b"crename: reserved: while\n",
-        ),
-        (
-            "a.c --offset 4 --new-name __x",
-            7,
-            b"crename: reserved: __x\n",
-        ),
-        (
-            "a.c --offset 4 --new-name _X",
-            7,
-            b"crename: reserved: _X\n",
-        ),
-        (
-            "a.c --offset 4 --new-name defined",
-            7,
-            b"crename: reserved: defined\n",
-        ),
-        (
-            "a.c --offset 4 --new-name 9a",
-            7,
-            b"crename: reserved: 9a\n",
-        ),
-        ("a.c --offset 4 --new-name ", 7, b"crename: reserved: \n"),
-        (
-            "a.c --offset 4 --new-name main",
-            7,
-            b"crename: reserved: main\n",
-        ),
-        (
-            "a.c --offset 4 --new-name foo",
-            7,
-            b"crename: reserved: foo\n",
-        ),
-        (
-            "a.c --offset 4 --new-name _x",
-            7,
-            b"crename: reserved: _x\n",
-        ),
-        (
-            "a.c --offset 29 --new-name bar",
-            7,
-            b"crename: reserved: main\n",
-        ),
-        ("a.c --offset 3 --new-name bar", 6, NO_SYMBOL),
-        ("a.c --offset 7 --new-name bar", 6, NO_SYMBOL),
-        ("a.c --offset 55 --new-name bar", 6, NO_SYMBOL),
-        (
-            "b.c --offset 4 --new-name bar",
-            20,
-            b"crename: unbuilt: b.c\n",
-        ),
-        (
-            "-p db --qualified-name foo --new-name bar",
-            20,
-            b"crename: unbuilt: --qualified-name\n",
-        ),
-        (
-            "--root /w a.c --offset 4 --new-name bar",
-            20,
-            b"crename: unbuilt: --root\n",
-        ),
-        ("--generate 5", 20, b"crename: unbuilt: --generate\n"),
-    ];
-    for (line, status, err) in &cases {
+    for (line, status, err) in &REFUSED_WORDS {
         let told = told_of(alloc, &mut tree, line)?;
         assert!(rt; is(&told, *status, b"", err));
     }
     Ok(())
 }
 
+// The text of `a.c`, the words, the status, and what `out` and `err` get.
+const ONE_FILE: [(&[u8], &str, u8, &[u8], &[u8]); 17] = [
+    (
+        TWO_FUNCTIONS,
+        "a.c --offset 4 --new-name bar",
+        0,
+        TWO_FUNCTIONS_REPORT,
+        b"",
+    ),
+    (
+        TWO_FUNCTIONS,
+        "--new-name bar ./x/../a.c --offset=06",
+        0,
+        TWO_FUNCTIONS_REPORT,
+        b"",
+    ),
+    (HIDDEN, "a.c --offset 4 --new-name z", 0, HIDDEN_REPORT, b""),
+    (
+        HIDDEN,
+        "a.c --offset 42 --new-name z",
+        0,
+        HIDDEN_REPORT,
+        b"",
+    ),
+    (HIDDEN, "a.c --offset 33 --new-name z", 0, INNER_REPORT, b""),
+    (
+        COMMENTED,
+        "a.c --offset 13 --new-name bar",
+        0,
+        COMMENTED_REPORT,
+        b"",
+    ),
+    (
+        b"int fo\\\no;\n",
+        "a.c --offset 4 --new-name bar",
+        12,
+        b"",
+        b"crename: spelling: a.c:4\n",
+    ),
+    (
+        b"int foo;int f(void){return fo\\\r\no+f\\\noo;}\n",
+        "a.c --offset 31 --new-name bar",
+        12,
+        b"",
+        b"crename: spelling: a.c:27\n",
+    ),
+    (
+        b"int fo\\\no;\n",
+        "a.c --offset 4 --new-name _x",
+        7,
+        b"",
+        b"crename: reserved: _x\n",
+    ),
+    (
+        b"# pragma x\nint foo;\n",
+        "a.c --offset 15 --new-name bar",
+        20,
+        b"",
+        UNBUILT,
+    ),
+    (
+        b"int foo; /* x",
+        "a.c --offset 4 --new-name bar",
+        20,
+        b"",
+        UNBUILT,
+    ),
+    (
+        b"int foo;\nint bar;\n",
+        "a.c --offset 4 --new-name bar",
+        20,
+        b"",
+        UNBUILT,
+    ),
+    (
+        b"int foo;\nint foo(void);\n",
+        "a.c --offset 4 --new-name bar",
+        20,
+        b"",
+        UNBUILT,
+    ),
+    (
+        b"int foo=bar;\n",
+        "a.c --offset 4 --new-name baz",
+        20,
+        b"",
+        UNBUILT,
+    ),
+    (
+        b"int _foo;int foo;\n",
+        "a.c --offset 13 --new-name baz",
+        20,
+        b"",
+        UNBUILT,
+    ),
+    (
+        b"int f(void){int x;int x;}",
+        "a.c --offset 4 --new-name g",
+        20,
+        b"",
+        UNBUILT,
+    ),
+    (
+        b"extern int f;static int f;",
+        "a.c --offset 11 --new-name g",
+        20,
+        b"",
+        UNBUILT,
+    ),
+];
+
 #[test]
 fn one_file_is_renamed_or_refused(rt: HostRuntime) -> Result<(), Fail> {
     let alloc = rt.alloc();
-    let cases: [(&[u8], &str, u8, &[u8], &[u8]); 11] = [
-        (
-            TWO_FUNCTIONS,
-            "a.c --offset 4 --new-name bar",
-            0,
-            TWO_FUNCTIONS_REPORT,
-            b"",
-        ),
-        (
-            TWO_FUNCTIONS,
-            "--new-name bar ./x/../a.c --offset=06",
-            0,
-            TWO_FUNCTIONS_REPORT,
-            b"",
-        ),
-        (HIDDEN, "a.c --offset 4 --new-name z", 0, HIDDEN_REPORT, b""),
-        (
-            HIDDEN,
-            "a.c --offset 42 --new-name z",
-            0,
-            HIDDEN_REPORT,
-            b"",
-        ),
-        (HIDDEN, "a.c --offset 33 --new-name z", 0, INNER_REPORT, b""),
-        (
-            b"int foo;\nint bar;\n",
-            "a.c --offset 4 --new-name bar",
-            20,
-            b"",
-            UNBUILT,
-        ),
-        (
-            b"int foo;\nint foo(void);\n",
-            "a.c --offset 4 --new-name bar",
-            20,
-            b"",
-            UNBUILT,
-        ),
-        (
-            b"int foo=bar;\n",
-            "a.c --offset 4 --new-name baz",
-            20,
-            b"",
-            UNBUILT,
-        ),
-        (
-            b"int _foo;int foo;\n",
-            "a.c --offset 13 --new-name baz",
-            20,
-            b"",
-            UNBUILT,
-        ),
-        (
-            b"int f(void){int x;int x;}",
-            "a.c --offset 4 --new-name g",
-            20,
-            b"",
-            UNBUILT,
-        ),
-        (
-            b"extern int f;static int f;",
-            "a.c --offset 11 --new-name g",
-            20,
-            b"",
-            UNBUILT,
-        ),
-    ];
-    for (text, line, status, out, err) in &cases {
+    for (text, line, status, out, err) in &ONE_FILE {
         let mut tree = MemTree::new(alloc);
         put(alloc, &mut tree, "a.c", text)?;
         let told = told_of(alloc, &mut tree, line)?;
@@ -252,6 +303,14 @@ fn one_file_is_renamed_or_refused(rt: HostRuntime) -> Result<(), Fail> {
     }
     Ok(())
 }
+
+// A database, and the line on `err`.
+const BAD_DATABASES: [(&[u8], &[u8]); 4] = [
+    (b"[", b"crename: database: not json\n"),
+    (b"{}", b"crename: database: not array\n"),
+    (b"[{}]", b"crename: database: entry 0 field directory\n"),
+    (b"[3]", b"crename: database: entry 0 field object\n"),
+];
 
 #[test]
 fn a_database_is_refused_with_what_is_wrong(rt: HostRuntime) -> Result<(), Fail> {
@@ -263,13 +322,7 @@ fn a_database_is_refused_with_what_is_wrong(rt: HostRuntime) -> Result<(), Fail>
         "-p /w/no /w/a.c --offset 4 --new-name bar",
     )?;
     assert!(rt; is(&absent, 3, b"", b"crename: database: absent\n"));
-    let cases: [(&[u8], &[u8]); 4] = [
-        (b"[", b"crename: database: not json\n"),
-        (b"{}", b"crename: database: not array\n"),
-        (b"[{}]", b"crename: database: entry 0 field directory\n"),
-        (b"[3]", b"crename: database: entry 0 field object\n"),
-    ];
-    for (database, err) in &cases {
+    for (database, err) in &BAD_DATABASES {
         put(alloc, &mut tree, "/w/db", database)?;
         let told = told_of(alloc, &mut tree, IN_PLACE)?;
         assert!(rt; is(&told, 3, b"", err));
@@ -341,6 +394,33 @@ fn a_unit_that_is_not_built_changes_no_file(rt: HostRuntime) -> Result<(), Fail>
         let mut tree = two_units(alloc, first, second)?;
         let told = told_of(alloc, &mut tree, IN_PLACE)?;
         assert!(rt; is(&told, 20, b"", b"crename: unbuilt: /w/b.c\n"));
+        assert!(rt; holds(alloc, &tree, "/w/a.c", first)?);
+    }
+    Ok(())
+}
+
+// The text of the second unit, the status, and the line on `err`.
+const JOINED_NAMES: [(&[u8], u8, &[u8]); 2] = [
+    (
+        b"int f\\\noo(void);\n",
+        12,
+        b"crename: spelling: /w/b.c:4\n",
+    ),
+    (
+        b"int f\\\noo(void);int bar;\n",
+        20,
+        b"crename: unbuilt: /w/b.c\n",
+    ),
+];
+
+#[test]
+fn a_name_over_a_joined_line_changes_no_file(rt: HostRuntime) -> Result<(), Fail> {
+    let alloc = rt.alloc();
+    let first = b"int foo(void);\n".as_slice();
+    for (second, status, err) in &JOINED_NAMES {
+        let mut tree = two_units(alloc, first, second)?;
+        let told = told_of(alloc, &mut tree, IN_PLACE)?;
+        assert!(rt; is(&told, *status, b"", err));
         assert!(rt; holds(alloc, &tree, "/w/a.c", first)?);
     }
     Ok(())

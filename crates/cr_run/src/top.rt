@@ -26,9 +26,10 @@ use std::alloc::Global;
 /// Without a database the source is the one unit. The status is 0 where the rename was done: with `-i`
 /// the files are written, and else the edited texts are printed behind the report, which goes to `out`.
 /// It is 2 where the words are others, 3 where the database is refused, 4 where a file couldn't be read,
-/// 6 where no name stands at the offset, 7 where a name can't be given or taken, 16 where a file couldn't
-/// be written, 17 where no memory was found, 18 where `out` failed, 19 where a limit is passed, and 20
-/// where a word or a file is of a form that isn't built yet. In each of these `err` gets one line.
+/// 6 where no name stands at the offset, 7 where a name can't be given or taken, 12 where the new name
+/// can't be spelled at a place of the old one, 16 where a file couldn't be written, 17 where no memory was
+/// found, 18 where `out` failed, 19 where a limit is passed, and 20 where a word or a file is of a form that
+/// isn't built yet. In each of these `err` gets one line.
 pub fn crename_serial<T: Tree, O: Sink, E: Sink>(
     alloc: Global,
     words: &[String],

@@ -1,7 +1,7 @@
 -- In a tree no body is opened inside another, and each token does one thing.
 use Rattle.std.proofs.Common.{◌≡◌, Bool, true, false, List, [], ◌∷◌, ◌++◌, map, Option, Some, None, refl, sym, ap, ◌∙◌, subst, append_assoc}
 use Rattle.std.specs.List.{flat_map}
-use Rattle.cr_small.specs.Tokens.{Token}
+use Rattle.cr_lex.specs.Lexing.{Token, Lexed}
 use Rattle.cr_small.specs.Terminals.{has_plain_names}
 use Rattle.cr_small.specs.Tree.{Item, number, mention, call, Sum, Statement, local, returns, evaluates, External, Declaration, object, prototype, definition, Leaf, item_leaves, more_leaves, sum_leaves, initialiser_leaves, object_leaves, statement_leaves, closing, declaration_leaves, word_leaves, external_leaves, leaves, parts, plain, Derives}
 use Rattle.cr_small.specs.Derivation.{HasParts}
@@ -84,16 +84,16 @@ parts_are_one tokens one two d e =
     let same : Some (leaves one) ≡ Some (leaves two) = sym (reads-tree one) ∙ ap (run (state.Start level.File)) (sym d ∙ e) ∙ reads-tree two in
     ap (map (λ l. l.part)) (let f : leaves one ≡ leaves two = cc in f)
 
-pub resolves : (tokens : List Token) (does : List Part) (found : Option (List (Option Denotation))) → has_plain_names tokens ≡ true → HasParts tokens (Some does)
-    → found ≡ resolved 0 file_scope (zip tokens does) → Resolves tokens found
-resolves tokens does None names h e = λ denotes small.
-    let same : does ≡ parts small.1.0 = h.2 ∙ parts_are_one tokens h.0 small.1.0 h.1 small.1.1.0 in
-    let bad : None ≡ Some denotes = e ∙ ap (λ d. resolved 0 file_scope (zip tokens d)) same ∙ small.1.1.1 in
+pub resolves : (text : Lexed) (does : List Part) (found : Option (List (Option Denotation))) → text.fault ≡ None → has_plain_names text.tokens ≡ true → HasParts text.tokens (Some does)
+    → found ≡ resolved 0 file_scope (zip text.tokens does) → Resolves text found
+resolves text does None whole names h e = λ denotes small.
+    let same : does ≡ parts small.2.0 = h.2 ∙ parts_are_one text.tokens h.0 small.2.0 h.1 small.2.1.0 in
+    let bad : None ≡ Some denotes = e ∙ ap (λ d. resolved 0 file_scope (zip text.tokens d)) same ∙ small.2.1.1 in
     cc
-resolves tokens does (Some denotes) names h e = (names, (h.0, (h.1, sym (e ∙ ap (λ d. resolved 0 file_scope (zip tokens d)) h.2))))
+resolves text does (Some denotes) whole names h e = (whole, names, (h.0, (h.1, sym (e ∙ ap (λ d. resolved 0 file_scope (zip text.tokens d)) h.2))))
 
 pub denotes_one : DenotesOne
-denotes_one tokens one other a b =
-    let same = parts_are_one tokens a.1.0 b.1.0 a.1.1.0 b.1.1.0 in
-    let e : Some one ≡ Some other = sym a.1.1.1 ∙ ap (λ d. resolved 0 file_scope (zip tokens d)) same ∙ b.1.1.1 in
+denotes_one text one other a b =
+    let same = parts_are_one text.tokens a.2.0 b.2.0 a.2.1.0 b.2.1.0 in
+    let e : Some one ≡ Some other = sym a.2.1.1 ∙ ap (λ d. resolved 0 file_scope (zip text.tokens d)) same ∙ b.2.1.1 in
     let f : one ≡ other = cc in f

@@ -1,45 +1,48 @@
 -- A rename to a name that a text doesn't have keeps the meaning of the text.
 use Rattle.std.proofs.Common.{◌≡◌, ℕ, ◌+◌, ◌≤◌, Bool, true, false, not, ◌||◌, List, [], ◌∷◌, length, map, slice_get, Option, Some, None, refl, sym, ap, ◌∙◌, subst, arith, zero, suc}
 use Rattle.std.specs.Prelude.{if◌then◌else◌, bytes_eq}
-use Rattle.std.specs.List.{zip}
+use Rattle.std.specs.List.{zip, Contains}
 use Rattle.std.specs.Option.{option_map}
-use Rattle.std.proofs.lemmas.Option.{slice_get-map}
+use Rattle.std.proofs.lemmas.Option.{slice_get-map, slice_get_within, get_or_from_slice_get}
+use Rattle.std.proofs.lemmas.List.Elements.{Contains-get_or}
+use Rattle.cr_base.specs.Names.{is_identifier}
 use Rattle.cr_base.specs.Substitution.{shifted, substituted}
-use Rattle.cr_small.specs.Tokens.{Token, cut}
+use Rattle.cr_lex.specs.Lexing.{Token, lexed}
+use Rattle.cr_lex.specs.Order.{AreInOrder, StandsInOrder}
+use Rattle.cr_lex.specs.Renaming.{is_among, is_refused, IsPlace, renamed_token, renamed, shifted_fault, KeepsLexing}
 use Rattle.cr_small.specs.Terminals.{is_name, terminal_of}
 use Rattle.cr_small.specs.Tree.{parts}
-use Rattle.cr_small.specs.Resolution.{file_scope}
+use Rattle.cr_small.specs.Resolution.{file_scope, resolved}
 use Rattle.cr_small.specs.Renaming.{has_text}
 use Rattle.cr_small.proofs.Entities.{places_of, denotes_entity}
 use Rattle.cr_small.specs.Keys.{Key, external, at, has_external_linkage, key_of_token, key_of}
 use Rattle.cr_small.specs.SmallForm.{IsSmallForm}
-use Rattle.cr_small.specs.KeepsMeaning.{is_place, renamed_token, AreLinked, KeepsMeaning}
+use Rattle.cr_small.specs.KeepsMeaning.{AreLinked, KeepsMeaning}
 use Rattle.cr_small.specs.declared.grammar.Part.{Part}
 use Rattle.cr_small.specs.declared.binder.Denotation.{Denotation}
 use Rattle.cr_small.proofs.Flat.{both, bytes_eq-refl}
-use Rattle.cr_small.proofs.Cuts.{InOrder}
-use Rattle.cr_small.proofs.Names.{AllSpelled, text_of, texts-from, well-spelled, same-length, derived-length}
+use Rattle.cr_small.proofs.Cuts.{InOrder, in_order}
+use Rattle.cr_small.proofs.Sound.{Each, Each-get, HasText, IsSound, sound, texts}
+use Rattle.cr_small.proofs.Names.{AllSpelled, TextsFrom, text_of, texts-from, well-spelled, same-length, derived-length, rise-places}
 use Rattle.cr_small.proofs.Pairs.{resolves-length}
-use Rattle.cr_small.proofs.Spacing.{IsWord, layout-cut}
-use Rattle.cr_small.proofs.Edited.{layout-order}
-use Rattle.cr_small.proofs.Moved.{Each, Each-get, HasText, PlacedAs, order-from, layout-texts, tokens-renamed, placed-text}
+use Rattle.cr_small.proofs.Placed.{PlacedAs, order-from, placed-as, all-at}
 use Rattle.cr_small.proofs.Renames.{AreRenamed, AllFresh, walk-follows}
 use Rattle.cr_small.proofs.Links.{AreAlike, PairsAlike, pairs-alike, alike-at}
-use Rattle.cr_small.proofs.Spelling.{NameIf, NamesAt, well-named, word-of-name, terminal-of-name}
+use Rattle.cr_small.proofs.Naming.{NameIf, NamesAt, well-named, ident-of-name, terminal-of-name}
 
 -- tokens at one offset are one
-pub distinct : (ts : List Token) (from end : ℕ) (i j : ℕ) (t u : Token) → InOrder from ts end → Each HasText ts → slice_get ts i ≡ Some t → slice_get ts j ≡ Some u → t.offset ≡ u.offset → i ≡ j
+pub distinct : (ts : List Token) (from end : ℕ) (i j : ℕ) (t u : Token) → InOrder from ts end → Each HasText ts → slice_get ts i ≡ Some t → slice_get ts j ≡ Some u → t.at ≡ u.at → i ≡ j
 distinct [] from end i j t u order texts h k e = let no : ⊥ = cc in absurd no
 distinct (x ∷ xs) from end zero zero t u order texts h k e = refl
 distinct (x ∷ xs) from end zero (suc j) t u order texts h k e =
     let same : x ≡ t = cc in
-    let behind = Each-get (λ v. x.offset + length x.text ≤ v.offset) xs j u (order-from xs (x.offset + length x.text) end order.1) k in
-    absurd (omega (arith, ap (λ z. z.offset) same, texts.0))
+    let behind = Each-get (λ v. x.at + length x.text ≤ v.at) xs j u (order-from xs (x.at + length x.text) end order.1) k in
+    absurd (omega (arith, ap (λ z. z.at) same, texts.0))
 distinct (x ∷ xs) from end (suc i) zero t u order texts h k e =
     let same : x ≡ u = cc in
-    let behind = Each-get (λ v. x.offset + length x.text ≤ v.offset) xs i t (order-from xs (x.offset + length x.text) end order.1) h in
-    absurd (omega (arith, ap (λ z. z.offset) same, texts.0))
-distinct (x ∷ xs) from end (suc i) (suc j) t u order texts h k e = ap suc (distinct xs (x.offset + length x.text) end i j t u order.1 texts.1 h k e)
+    let behind = Each-get (λ v. x.at + length x.text ≤ v.at) xs i t (order-from xs (x.at + length x.text) end order.1) h in
+    absurd (omega (arith, ap (λ z. z.at) same, texts.0))
+distinct (x ∷ xs) from end (suc i) (suc j) t u order texts h k e = ap suc (distinct xs (x.at + length x.text) end i j t u order.1 texts.1 h k e)
 
 pub text_of-get : (ts : List Token) (i : ℕ) (t : Token) → slice_get ts i ≡ Some t → text_of ts i ≡ t.text
 text_of-get [] i t h = let no : ⊥ = cc in absurd no
@@ -58,14 +61,14 @@ fresh-each new (t ∷ ts) h = by (bytes_eq t.text new) refl h (fresh-each new ts
 pub linked-of : (d : Denotation) → has_external_linkage d ≡ true → d.linked ≡ true
 linked-of d h = (both d.linked (not d.internal) h).0
 
-module _ (f : ℕ → List ℕ) (entity : ℕ) (new : List ℕ) (old_word : IsWord (f entity)) (new_word : IsWord new) (places : List ℕ) where
+module _ (f : ℕ → List ℕ) (entity : ℕ) (new : List ℕ) (places : List ℕ) where
   abbrev after : List Token → List Token
   after ts = map (renamed_token places (f entity) new) ts
 
   abbrev Placed : List Token → List (Option Denotation) → Type 0
-  Placed ts ds = PlacedAs f entity new old_word new_word places ts ds
+  Placed ts ds = PlacedAs f entity places ts ds
 
-  spelled-each : (ts : List Token) (ds : List (Option Denotation)) → length ds ≡ length ts → Placed ts ds → AllSpelled f (zip ts ds) → Each (λ t. is_place places t.offset ≡ true → t.text ≡ f entity) ts
+  spelled-each : (ts : List Token) (ds : List (Option Denotation)) → length ds ≡ length ts → Placed ts ds → AllSpelled f (zip ts ds) → Each (λ t. is_among places t.at ≡ true → t.text ≡ f entity) ts
   spelled-each [] ds n p all = tt
   spelled-each (t ∷ ts) [] n p all = absurd (omega arith)
   spelled-each (t ∷ ts) (d ∷ ds) n p all = (λ h. same-length f entity t d all.0 (sym p.0 ∙ h), spelled-each ts ds (omega arith) p.1 all.1)
@@ -75,10 +78,10 @@ module _ (f : ℕ → List ℕ) (entity : ℕ) (new : List ℕ) (old_word : IsWo
   terminals-kept [] ds n p names new_name = refl
   terminals-kept (t ∷ ts) [] n p names new_name = absurd (omega arith)
   terminals-kept (t ∷ ts) (d ∷ ds) n p names new_name =
-      ap (λ x. x ∷ map (λ t. terminal_of t.text) (after ts)) (by (is_place places t.offset) refl d names.0 p.0)
+      ap (λ x. x ∷ map (λ t. terminal_of t.text) (after ts)) (by (is_among places t.at) refl d names.0 p.0)
       ∙ ap (λ l. terminal_of t.text ∷ l) (terminals-kept ts ds (omega arith) p.1 names.1 new_name)
     where
-      by : (b : Bool) → is_place places t.offset ≡ b → (d : Option Denotation) → NameIf t d → is_place places t.offset ≡ denotes_entity entity d → terminal_of (if is_place places t.offset then new else t.text) ≡ terminal_of t.text
+      by : (b : Bool) → is_among places t.at ≡ b → (d : Option Denotation) → NameIf t d → is_among places t.at ≡ denotes_entity entity d → terminal_of (if is_among places t.at then new else t.text) ≡ terminal_of t.text
       by false e d name h = ap (λ b. terminal_of (if b then new else t.text)) e
       by true e None name h = let no : true ≡ false = sym e ∙ h in let bad : ⊥ = cc in absurd bad
       by true e (Some d) name h = ap (λ b. terminal_of (if b then new else t.text)) e ∙ terminal-of-name new new_name ∙ sym name
@@ -125,21 +128,21 @@ module _ (f : ℕ → List ℕ) (entity : ℕ) (new : List ℕ) (old_word : IsWo
   keys-follow ts d e t u true false p q alike m n h k same = let no : ⊥ = cc in absurd no
   keys-follow ts d e t u false true p q alike m n h k same = let no : ⊥ = cc in absurd no
   keys-follow ts d e t u false false p q alike m n h k same =
-      let offsets : t.offset ≡ u.offset = cc in
+      let offsets : t.at ≡ u.at = cc in
       ap (λ o. at (shifted places (length (f entity)) (length new) o)) offsets
 
-  text-back : (t u : Token) → (is_place places t.offset ≡ true → t.text ≡ f entity) → (is_place places u.offset ≡ true → u.text ≡ f entity) → bytes_eq t.text new ≡ false → bytes_eq u.text new ≡ false
+  text-back : (t u : Token) → (is_among places t.at ≡ true → t.text ≡ f entity) → (is_among places u.at ≡ true → u.text ≡ f entity) → bytes_eq t.text new ≡ false → bytes_eq u.text new ≡ false
       → (renamed_token places (f entity) new t).text ≡ (renamed_token places (f entity) new u).text → t.text ≡ u.text
-  text-back t u p q m n same = by (is_place places t.offset) refl (is_place places u.offset) refl same
+  text-back t u p q m n same = by (is_among places t.at) refl (is_among places u.at) refl same
     where
-      by : (a : Bool) → is_place places t.offset ≡ a → (b : Bool) → is_place places u.offset ≡ b → (if a then new else t.text) ≡ (if b then new else u.text) → t.text ≡ u.text
+      by : (a : Bool) → is_among places t.at ≡ a → (b : Bool) → is_among places u.at ≡ b → (if a then new else t.text) ≡ (if b then new else u.text) → t.text ≡ u.text
       by true e true g s = p e ∙ sym (q g)
       by true e false g s = let no : true ≡ false = sym (bytes_eq-refl new) ∙ ap (λ z. bytes_eq z new) s ∙ n in let bad : ⊥ = cc in absurd bad
       by false e true g s = let no : true ≡ false = sym (bytes_eq-refl new) ∙ ap (λ z. bytes_eq z new) (sym s) ∙ m in let bad : ⊥ = cc in absurd bad
       by false e false g s = s
 
   keys-back : (ts : List Token) (end : ℕ) (d e : Denotation) (t u : Token) (x y : Bool) → InOrder 0 (after ts) end → Each HasText (after ts)
-      → (is_place places t.offset ≡ true → t.text ≡ f entity) → (is_place places u.offset ≡ true → u.text ≡ f entity) → bytes_eq t.text new ≡ false → bytes_eq u.text new ≡ false
+      → (is_among places t.at ≡ true → t.text ≡ f entity) → (is_among places u.at ≡ true → u.text ≡ f entity) → bytes_eq t.text new ≡ false → bytes_eq u.text new ≡ false
       → slice_get ts d.token ≡ Some t → slice_get ts e.token ≡ Some u
       → key_of_token x (renamed_token places (f entity) new t) ≡ key_of_token y (renamed_token places (f entity) new u) → key_of_token x t ≡ key_of_token y u
   keys-back ts end d e t u true true order texts p q m n h k same =
@@ -148,11 +151,11 @@ module _ (f : ℕ → List ℕ) (entity : ℕ) (new : List ℕ) (old_word : IsWo
   keys-back ts end d e t u true false order texts p q m n h k same = let no : ⊥ = cc in absurd no
   keys-back ts end d e t u false true order texts p q m n h k same = let no : ⊥ = cc in absurd no
   keys-back ts end d e t u false false order texts p q m n h k same =
-      let offsets : (renamed_token places (f entity) new t).offset ≡ (renamed_token places (f entity) new u).offset = cc in
+      let offsets : (renamed_token places (f entity) new t).at ≡ (renamed_token places (f entity) new u).at = cc in
       let one = distinct (after ts) 0 end d.token e.token _ _ order texts (slice_get-map (renamed_token places (f entity) new) ts d.token ∙ ap (option_map (renamed_token places (f entity) new)) h) (slice_get-map (renamed_token places (f entity) new) ts e.token ∙ ap (option_map (renamed_token places (f entity) new)) k) offsets in
       let v : Some t ≡ Some u = sym h ∙ ap (slice_get ts) one ∙ k in
       let w : t ≡ u = cc in
-      ap (λ z. at z.offset) w
+      ap (λ z. at z.at) w
 
   links-follow : (ts : List Token) (ds : List (Option Denotation)) (i j : ℕ) → f ≡ text_of ts → PairsAlike f entity new ds → AreLinked ts ds i j → AreLinked (after ts) ds i j
   links-follow ts ds i j is pairs (d, e, at_i, at_j, k, one, other) =
@@ -162,7 +165,7 @@ module _ (f : ℕ → List ℕ) (entity : ℕ) (new : List ℕ) (old_word : IsWo
       let same = keys-follow ts d e t.0 u.0 (has_external_linkage d) (has_external_linkage e) refl refl alike (ap (λ g. g d.token) is ∙ text_of-get ts d.token t.0 t.1) (ap (λ g. g e.token) is ∙ text_of-get ts e.token u.0 u.1) t.1 u.1 (sym t.2 ∙ u.2) in
       (d, e, at_i, at_j, key_of_token (has_external_linkage d) (renamed_token places (f entity) new t.0), key-after ts d t.0 t.1, key-after ts e u.0 u.1 ∙ ap (λ z. Some z) (sym same))
 
-  links-back : (ts : List Token) (ds : List (Option Denotation)) (i j end : ℕ) → InOrder 0 (after ts) end → Each HasText (after ts) → Each (λ t. is_place places t.offset ≡ true → t.text ≡ f entity) ts → Each (λ t. bytes_eq t.text new ≡ false) ts
+  links-back : (ts : List Token) (ds : List (Option Denotation)) (i j end : ℕ) → InOrder 0 (after ts) end → Each HasText (after ts) → Each (λ t. is_among places t.at ≡ true → t.text ≡ f entity) ts → Each (λ t. bytes_eq t.text new ≡ false) ts
       → AreLinked (after ts) ds i j → AreLinked ts ds i j
   links-back ts ds i j end order texts spelled fresh (d, e, at_i, at_j, k, one, other) =
       let v = key-found (after ts) d k one in
@@ -172,44 +175,97 @@ module _ (f : ℕ → List ℕ) (entity : ℕ) (new : List ℕ) (old_word : IsWo
       let now : key_of_token (has_external_linkage d) (renamed_token places (f entity) new t.0) ≡ key_of_token (has_external_linkage e) (renamed_token places (f entity) new u.0) =
       ap (key_of_token (has_external_linkage d)) t.2 ∙ sym v.2 ∙ w.2 ∙ ap (key_of_token (has_external_linkage e)) (sym u.2) in
       let same = keys-back ts end d e t.0 u.0 (has_external_linkage d) (has_external_linkage e) order texts
-      (Each-get (λ t. is_place places t.offset ≡ true → t.text ≡ f entity) ts d.token t.0 spelled t.1) (Each-get (λ t. is_place places t.offset ≡ true → t.text ≡ f entity) ts e.token u.0 spelled u.1)
+      (Each-get (λ t. is_among places t.at ≡ true → t.text ≡ f entity) ts d.token t.0 spelled t.1) (Each-get (λ t. is_among places t.at ≡ true → t.text ≡ f entity) ts e.token u.0 spelled u.1)
       (Each-get (λ t. bytes_eq t.text new ≡ false) ts d.token t.0 fresh t.1) (Each-get (λ t. bytes_eq t.text new ≡ false) ts e.token u.0 fresh u.1) t.1 u.1 now in
       (d, e, at_i, at_j, key_of_token (has_external_linkage d) t.0, ap (option_map (key_of_token (has_external_linkage d))) t.1, ap (option_map (key_of_token (has_external_linkage e))) u.1 ∙ ap (λ z. Some z) (sym same))
 
 -- the places of an entity can be renamed
-pub keeping_entity : (bytes new : List ℕ) (denotes : List (Option Denotation)) (entity : ℕ) → IsSmallForm (cut 0 bytes) denotes → is_name (text_of (cut 0 bytes) entity) ≡ true → is_name new ≡ true → has_text new (cut 0 bytes) ≡ false
-    → (kept : KeepsMeaning (cut 0 bytes) (cut 0 (substituted (places_of entity (zip (cut 0 bytes) denotes)) (length (text_of (cut 0 bytes) entity)) new bytes)) (places_of entity (zip (cut 0 bytes) denotes)) (text_of (cut 0 bytes) entity) new) × (kept.denotes ≡ denotes)
-keeping_entity bytes new denotes entity small old_name new_name fresh_name =
-    let ts = cut 0 bytes in
-    let f = text_of ts in
-    let tree = small.1.0 in
-    let well = small.1.1 in
-    let all = well-spelled ts tree denotes well in
-    let names = well-named ts tree denotes well in
-    let old_word : IsWord (f entity) = word-of-name (f entity) old_name in
-    let new_word = word-of-name new new_name in
-    let n = resolves-length ts denotes small in
-    let places = places_of entity (zip ts denotes) in
-    let cuts = tokens-renamed f entity new old_word new_word bytes denotes n all in
-    let placed = placed-text f entity new old_word new_word bytes denotes n all in
-    let fresh = fresh-each new ts fresh_name in
-    let spelled = spelled-each f entity new old_word new_word places ts denotes n placed all in
-    let m = derived-length ts tree well.0 in
-    let texts = texts-from ts (parts tree) f 0 (λ k. ap f (let e : 0 + k ≡ k = omega arith in e)) in
-    let walk = walk-follows f entity new (zip ts (parts tree)) 0 file_scope denotes (zip (after f entity new old_word new_word places ts) (parts tree)) tt (all-fresh f entity new old_word new_word places ts (parts tree) fresh) texts
-    (are-renamed f entity new old_word new_word places ts (parts tree) denotes n m placed) well.1 in
-    let pairs = pairs-alike f entity new (zip ts (parts tree)) 0 file_scope denotes tt (all-fresh f entity new old_word new_word places ts (parts tree) fresh) texts well.1 in
-    let edited = substituted places (length (f entity)) new bytes in
-    let laid = layout-cut edited 0 in
-    let order : InOrder 0 (after f entity new old_word new_word places ts) (0 + length edited) = subst (λ l. InOrder 0 l (0 + length edited)) cuts (layout-order (cut 0 edited) 0 edited laid) in
-    let has : Each HasText (after f entity new old_word new_word places ts) = subst (Each HasText) cuts (layout-texts (cut 0 edited) 0 edited laid) in
-    let kept : KeepsMeaning ts (after f entity new old_word new_word places ts) places (f entity) new = record {
-      tokens = refl;
-      spelled = λ i t h p. Each-get (λ t. is_place places t.offset ≡ true → t.text ≡ f entity) ts i t spelled h p;
-      tree = tree;
-      denotes = denotes;
-      was_well_formed = well;
-      is_well_formed = (terminals-kept f entity new old_word new_word places ts denotes n placed names new_name ∙ well.0, walk);
-      links = λ i j. (links-follow f entity new old_word new_word places ts denotes i j refl pairs, links-back f entity new old_word new_word places ts denotes i j (0 + length edited) order has spelled fresh);
-    } in
-    subst (λ l. (k : KeepsMeaning ts l places (f entity) new) × (k.denotes ≡ denotes)) (sym cuts) (kept, refl)
+module _ (lexes : KeepsLexing) (stands : StandsInOrder) (bytes new : List ℕ) (denotes : List (Option Denotation)) (entity : ℕ) (small : IsSmallForm (lexed bytes) denotes)
+    (old_name : is_name (text_of (lexed bytes).tokens entity) ≡ true) (new_name : is_name new ≡ true) (fresh_name : has_text new (lexed bytes).tokens ≡ false)
+    (spells : (i : ℕ) (t : Token) (d : Option Denotation) → slice_get (lexed bytes).tokens i ≡ Some t → slice_get denotes i ≡ Some d → denotes_entity entity d ≡ true → is_refused bytes new t ≡ false) where
+  abbrev ts : List Token
+  ts = (lexed bytes).tokens
+
+  abbrev f : ℕ → List ℕ
+  f = text_of ts
+
+  abbrev places : List ℕ
+  places = places_of entity (zip ts denotes)
+
+  abbrev edited : List ℕ
+  edited = substituted places (length (f entity)) new bytes
+
+  abbrev news : List Token
+  news = map (renamed_token places (f entity) new) ts
+
+  spelled_all : AllSpelled f (zip ts denotes)
+  spelled_all = well-spelled ts small.2.0 denotes small.2.1
+
+  stood : InOrder 0 ts (length bytes)
+  stood = in_order ts 0 (length bytes) (stands bytes)
+
+  old_ident : is_identifier (f entity) ≡ true
+  old_ident = ident-of-name (f entity) old_name
+
+  at_place : (i : ℕ) (t : Token) (d : Option Denotation) → slice_get ts i ≡ Some t → slice_get denotes i ≡ Some d → denotes_entity entity d ≡ true → t.text ≡ f entity → IsPlace bytes (f entity) new t.at
+  at_place i t d h k e same = (
+    t,
+    subst (Contains ts) (get_or_from_slice_get ts i t t h) (Contains-get_or ts i t (slice_get_within ts i t h)),
+    refl,
+    record { kind = (Each-get IsSound ts i t (sound bytes) h).1 (ap is_identifier same ∙ old_ident); text = same; spelling = spells i t d h k e },
+  )
+
+  pub cuts : lexed edited ≡ renamed places (f entity) new (lexed bytes)
+  cuts =
+      lexes bytes (f entity) new places old_ident (ident-of-name new new_name)
+      (rise-places f entity ts denotes 0 (length bytes) stood spelled_all)
+      (all-at f entity (IsPlace bytes (f entity) new) ts denotes spelled_all at_place)
+
+  count : length denotes ≡ length ts
+  count = resolves-length (lexed bytes) denotes small
+
+  pub placed : PlacedAs f entity places ts denotes
+  placed = placed-as f entity ts denotes 0 (length bytes) count stood (texts bytes) spelled_all
+
+  fresh : Each (λ t. bytes_eq t.text new ≡ false) ts
+  fresh = fresh-each new ts fresh_name
+
+  spelled : Each (λ t. is_among places t.at ≡ true → t.text ≡ f entity) ts
+  spelled = spelled-each f entity new places ts denotes count placed spelled_all
+
+  numbered : TextsFrom f 0 (zip ts (parts small.2.0))
+  numbered = texts-from ts (parts small.2.0) f 0 (λ k. ap f (let e : 0 + k ≡ k = omega arith in e))
+
+  order : InOrder 0 news (length edited)
+  order = in_order news 0 (length edited) (subst (λ l. AreInOrder 0 l.tokens (length edited)) cuts (stands edited))
+
+  has : Each HasText news
+  has = subst (λ l. Each HasText l.tokens) cuts (texts edited)
+
+  all_new : AllFresh f entity new (zip ts (parts small.2.0))
+  all_new = all-fresh f entity new places ts (parts small.2.0) fresh
+
+  walk : resolved 0 file_scope (zip news (parts small.2.0)) ≡ Some denotes
+  walk =
+      walk-follows f entity new (zip ts (parts small.2.0)) 0 file_scope denotes (zip news (parts small.2.0)) tt all_new numbered
+      (are-renamed f entity new places ts (parts small.2.0) denotes count (derived-length ts small.2.0 small.2.1.0) placed) small.2.1.1
+
+  pairs : PairsAlike f entity new denotes
+  pairs = pairs-alike f entity new (zip ts (parts small.2.0)) 0 file_scope denotes tt all_new numbered small.2.1.1
+
+  kept : KeepsMeaning (lexed bytes) (renamed places (f entity) new (lexed bytes)) places (f entity) new
+  kept = record {
+    was_whole = small.0;
+    is_whole = ap (option_map (shifted_fault (shifted places (length (f entity)) (length new)))) small.0;
+    tokens = refl;
+    spelled = λ i t h p. Each-get (λ t. is_among places t.at ≡ true → t.text ≡ f entity) ts i t spelled h p;
+    tree = small.2.0;
+    denotes = denotes;
+    was_well_formed = small.2.1;
+    is_well_formed = (terminals-kept f entity new places ts denotes count placed (well-named ts small.2.0 denotes small.2.1) new_name ∙ small.2.1.0, walk);
+    links = λ i j. (links-follow f entity new places ts denotes i j refl pairs, links-back f entity new places ts denotes i j (length edited) order has spelled fresh);
+  }
+
+  pub keeping_entity : (kept : KeepsMeaning (lexed bytes) (lexed edited) places (f entity) new) × (kept.denotes ≡ denotes)
+  unfolding kept
+  keeping_entity = subst (λ l. (k : KeepsMeaning (lexed bytes) l places (f entity) new) × (k.denotes ≡ denotes)) (sym cuts) (kept, refl)

@@ -5,7 +5,8 @@ use Rattle.std.specs.Option.{option_map}
 use Rattle.std.specs.List.{zip, filter}
 use Rattle.std.proofs.lemmas.Slice.Eq.{bytes_eq-Decides}
 use Rattle.cr_base.specs.Substitution.{Rise}
-use Rattle.cr_small.specs.Tokens.{Token, cut}
+use Rattle.cr_lex.specs.Lexing.{Token, Fault, Lexed, lexed}
+use Rattle.cr_lex.specs.Order.{StandsInOrder}
 use Rattle.cr_small.specs.Terminals.{is_name, has_plain_names, terminal_of}
 use Rattle.cr_small.specs.Resolution.{file_scope, resolved}
 use Rattle.cr_small.specs.Keys.{Key, external, at, has_external_linkage, key_of_token, key_of, is_key}
@@ -17,15 +18,13 @@ use Rattle.cr_small.specs.declared.grammar.State.TheVariants as state
 use Rattle.cr_small.specs.declared.grammar.Part.{Part}
 use Rattle.cr_small.specs.declared.binder.Denotation.{Denotation}
 use Rattle.cr_small.proofs.Braces.{resolves}
-use Rattle.cr_small.proofs.Cuts.{InOrder, rise_down}
-use Rattle.cr_small.proofs.Edited.{layout-order}
+use Rattle.cr_small.proofs.Cuts.{InOrder, rise_down, in_order}
 use Rattle.cr_small.proofs.Keeping.{distinct, text_of-get}
-use Rattle.cr_small.proofs.Moved.{Each, HasText, layout-texts}
+use Rattle.cr_small.proofs.Sound.{Each, HasText, texts as file-texts}
 use Rattle.cr_small.proofs.Names.{AllSpelled, SpelledOne, InOrder-end, text_of, well-spelled}
 use Rattle.cr_small.proofs.Pairs.{resolves-length}
 use Rattle.cr_small.proofs.Parts.{read, has_parts}
-use Rattle.cr_small.proofs.Spacing.{layout-cut}
-use Rattle.cr_small.proofs.Spelling.{NameIf, NamesAt, name-of-terminal, well-named}
+use Rattle.cr_small.proofs.Naming.{NameIf, NamesAt, name-of-terminal, well-named}
 
 pub same_key : (a b : Key) → is_key a b ≡ true → a ≡ b
 same_key (external n) (external m) h = ap external ((bytes_eq-Decides n m).0 h)
@@ -98,11 +97,12 @@ pub record Keyed (ts : List Token) (i : ℕ) (d : Denotation) : Type 0 where
   pub alike : first.text ≡ own.text
   pub key : key_of ts d ≡ Some (key_of_token (has_external_linkage d) first)
 
-pub keyed-at : (ts : List Token) (ds : List (Option Denotation)) (i : ℕ) (d : Denotation) → IsSmallForm ts ds → slice_get ds i ≡ Some (Some d) → Keyed ts i d
-keyed-at ts ds i d small h =
-    let t = token-at ts ds i (Some d) (resolves-length ts ds small) h in
-    let name = name-get ts ds i t.0 d (well-named ts small.1.0 ds small.1.1) t.1 h in
-    let u = first-token ts d.token t.0.text (spelled-get (text_of ts) ts ds i t.0 d (well-spelled ts small.1.0 ds small.1.1) t.1 h) name in
+pub keyed-at : (text : Lexed) (ds : List (Option Denotation)) (i : ℕ) (d : Denotation) → IsSmallForm text ds → slice_get ds i ≡ Some (Some d) → Keyed text.tokens i d
+keyed-at text ds i d small h =
+    let ts = text.tokens in
+    let t = token-at ts ds i (Some d) (resolves-length text ds small) h in
+    let name = name-get ts ds i t.0 d (well-named ts small.2.0 ds small.2.1) t.1 h in
+    let u = first-token ts d.token t.0.text (spelled-get (text_of ts) ts ds i t.0 d (well-spelled ts small.2.0 ds small.2.1) t.1 h) name in
     record { own = t.0; own_at = t.1; name = name; first = u.0; first_at = u.1; alike = u.2; key = ap (option_map (key_of_token (has_external_linkage d))) u.1 }
 
 -- what stands at an offset is one of the tokens
@@ -149,36 +149,36 @@ same-text ts i j end d e order texts k l same = by (has_external_linkage d) (has
     by true false h = let bad : ⊥ = cc in absurd bad
     by false true h = let bad : ⊥ = cc in absurd bad
     by false false h =
-        let offsets : k.first.offset ≡ l.first.offset = cc in
+        let offsets : k.first.at ≡ l.first.at = cc in
         let one = distinct ts 0 end d.token e.token k.first l.first order texts k.first_at l.first_at offsets in
         let v : Some k.first ≡ Some l.first = sym k.first_at ∙ ap (slice_get ts) one ∙ l.first_at in
         let w : k.first ≡ l.first = cc in
         sym k.alike ∙ ap (λ (z : Token). z.text) w ∙ l.alike
 
-module _ (bytes : List ℕ) (ds : List (Option Denotation)) (small : IsSmallForm (cut 0 bytes) ds) where
+module _ (stands : StandsInOrder) (bytes : List ℕ) (ds : List (Option Denotation)) (small : IsSmallForm (lexed bytes) ds) where
   abbrev pub ts : List Token
-  ts = cut 0 bytes
+  ts = (lexed bytes).tokens
 
-  pub order : InOrder 0 ts (0 + length bytes)
-  order = layout-order ts 0 bytes (layout-cut bytes 0)
+  pub order : InOrder 0 ts (length bytes)
+  order = in_order ts 0 (length bytes) (stands bytes)
 
   pub texts : Each HasText ts
-  texts = layout-texts ts 0 bytes (layout-cut bytes 0)
+  texts = file-texts bytes
 
   -- the name of a key is that of each token which denotes its entity
-  pub named : (name : List ℕ) (key : Key) (i : ℕ) (d : Denotation) → IsNameOf name key ts ds → (h : slice_get ds i ≡ Some (Some d)) → key_of ts d ≡ Some key → (keyed-at ts ds i d small h).own.text ≡ name
+  pub named : (name : List ℕ) (key : Key) (i : ℕ) (d : Denotation) → IsNameOf name key ts ds → (h : slice_get ds i ≡ Some (Some d)) → key_of ts d ≡ Some key → (keyed-at (lexed bytes) ds i d small h).own.text ≡ name
   named name key i d (inl is) h k = by (has_external_linkage d) (let eq : Some (key_of_token (has_external_linkage d) one.first) ≡ Some key = sym one.key ∙ k in let keys : key_of_token (has_external_linkage d) one.first ≡ key = cc in keys ∙ is)
     where
       one : Keyed ts i d
-      one = keyed-at ts ds i d small h
+      one = keyed-at (lexed bytes) ds i d small h
 
       by : (x : Bool) → key_of_token x one.first ≡ external name → one.own.text ≡ name
       by true e = let names : one.first.text ≡ name = cc in sym one.alike ∙ names
       by false e = let bad : ⊥ = cc in absurd bad
   named name key i d (inr (offset, target, there, names, keys)) h k =
       let f = found-at ts ds offset target there in
-      let other = keyed-at ts ds f.0.index f.0.denotes small f.0.denotes_at in
-      let text = same-text ts i f.0.index (0 + length bytes) d f.0.denotes order texts (keyed-at ts ds i d small h) other (k ∙ ap (λ z. Some z) (sym keys) ∙ sym f.1) in
+      let other = keyed-at (lexed bytes) ds f.0.index f.0.denotes small f.0.denotes_at in
+      let text = same-text ts i f.0.index (length bytes) d f.0.denotes order texts (keyed-at (lexed bytes) ds i d small h) other (k ∙ ap (λ z. Some z) (sym keys) ∙ sym f.1) in
       let own : Some other.own ≡ Some f.0.token = sym other.own_at ∙ f.0.token_at in
       let same : other.own ≡ f.0.token = cc in
       text ∙ ap (λ (z : Token). z.text) same ∙ sym f.0.name ∙ names
@@ -186,28 +186,28 @@ module _ (bytes : List ℕ) (ds : List (Option Denotation)) (small : IsSmallForm
 -- the places of tokens that pass a test rise
 rise-all : (p : Option Denotation → Bool) (len : ℕ) (ts : List Token) (ds : List (Option Denotation)) (from end : ℕ) → InOrder from ts end
     → ((i : ℕ) (t : Token) (d : Option Denotation) → slice_get ts i ≡ Some t → slice_get ds i ≡ Some d → p d ≡ true → length t.text ≡ len)
-    → Rise from (map (λ one. one.0.offset) (filter (λ one. p one.1) (zip ts ds))) len end
+    → Rise from (map (λ one. one.0.at) (filter (λ one. p one.1) (zip ts ds))) len end
 rise-all p len [] ds from end h each = h
 rise-all p len (t ∷ ts) [] from end h each = InOrder-end (t ∷ ts) from end h
 rise-all p len (t ∷ ts) (d ∷ ds) from end h each =
-    by (p d) refl (rise-all p len ts ds (t.offset + length t.text) end h.1 (λ i u e. each (suc i) u e))
+    by (p d) refl (rise-all p len ts ds (t.at + length t.text) end h.1 (λ i u e. each (suc i) u e))
   where
-    by : (b : Bool) → p d ≡ b → Rise (t.offset + length t.text) (map (λ one. one.0.offset) (filter (λ one. p one.1) (zip ts ds))) len end
-        → Rise from (map (λ one. one.0.offset) (if b then (t, d) ∷ filter (λ one. p one.1) (zip ts ds) else filter (λ one. p one.1) (zip ts ds))) len end
-    by true e rest = (h.0, subst (λ n. Rise (t.offset + n) (map (λ one. one.0.offset) (filter (λ one. p one.1) (zip ts ds))) len end) (each 0 t d refl refl e) rest)
-    by false e rest = rise_down (map (λ one. one.0.offset) (filter (λ one. p one.1) (zip ts ds))) (t.offset + length t.text) from len end (omega (arith, h.0)) rest
+    by : (b : Bool) → p d ≡ b → Rise (t.at + length t.text) (map (λ one. one.0.at) (filter (λ one. p one.1) (zip ts ds))) len end
+        → Rise from (map (λ one. one.0.at) (if b then (t, d) ∷ filter (λ one. p one.1) (zip ts ds) else filter (λ one. p one.1) (zip ts ds))) len end
+    by true e rest = (h.0, subst (λ n. Rise (t.at + n) (map (λ one. one.0.at) (filter (λ one. p one.1) (zip ts ds))) len end) (each 0 t d refl refl e) rest)
+    by false e rest = rise_down (map (λ one. one.0.at) (filter (λ one. p one.1) (zip ts ds))) (t.at + length t.text) from len end (omega (arith, h.0)) rest
 
-pub places-rise : PlacesRise
-places-rise bytes name key ds small is =
-    rise-all (denotes_key (cut 0 bytes) key) (length name) (cut 0 bytes) ds 0 (length bytes) (subst (λ n. InOrder 0 (cut 0 bytes) n) (let e : 0 + length bytes ≡ length bytes = omega arith in e) (order bytes ds small)) each
+pub places-rise : StandsInOrder → PlacesRise
+places-rise stands bytes name key ds small is =
+    rise-all (denotes_key (lexed bytes).tokens key) (length name) (lexed bytes).tokens ds 0 (length bytes) (order stands bytes ds small) each
   where
-    each : (i : ℕ) (t : Token) (d : Option Denotation) → slice_get (cut 0 bytes) i ≡ Some t → slice_get ds i ≡ Some d → denotes_key (cut 0 bytes) key d ≡ true → length t.text ≡ length name
+    each : (i : ℕ) (t : Token) (d : Option Denotation) → slice_get (lexed bytes).tokens i ≡ Some t → slice_get ds i ≡ Some d → denotes_key (lexed bytes).tokens key d ≡ true → length t.text ≡ length name
     each i t None h k e = let no : false ≡ true = e in let bad : ⊥ = cc in absurd bad
     each i t (Some d) h k e =
-        let one = keyed-at (cut 0 bytes) ds i d small k in
+        let one = keyed-at (lexed bytes) ds i d small k in
         let own : Some one.own ≡ Some t = sym one.own_at ∙ h in
         let same : one.own ≡ t = cc in
-        ap (λ (z : Token). length z.text) (sym same) ∙ ap length (named bytes ds small name key i d is k (keyed (cut 0 bytes) key d e))
+        ap (λ (z : Token). length z.text) (sym same) ∙ ap length (named stands bytes ds small name key i d is k (keyed (lexed bytes).tokens key d e))
 
 longer-places : (all : List Token) (key : Key) (ts : List Token) (ds : List (Option Denotation)) (i : ℕ) (t : Token) (d : Option Denotation) → slice_get ts i ≡ Some t → slice_get ds i ≡ Some d → denotes_key all key d ≡ true → 0 < length (places_among all key (zip ts ds))
 longer-places all key [] ds i t d h k e = let no : None ≡ Some t = h in let bad : ⊥ = cc in absurd bad
@@ -218,7 +218,7 @@ longer-places all key (x ∷ ts) (y ∷ ds) zero t d h k e =
     rw here (omega arith)
 longer-places all key (x ∷ ts) (y ∷ ds) (suc i) t d h k e = by (denotes_key all key y) (longer-places all key ts ds i t d h k e)
   where
-    by : (b : Bool) → 0 < length (places_among all key (zip ts ds)) → 0 < length (map (λ one. one.0.offset) (if b then (x, y) ∷ filter (λ one. denotes_key all key one.1) (zip ts ds) else filter (λ one. denotes_key all key one.1) (zip ts ds)))
+    by : (b : Bool) → 0 < length (places_among all key (zip ts ds)) → 0 < length (map (λ one. one.0.at) (if b then (x, y) ∷ filter (λ one. denotes_key all key one.1) (zip ts ds) else filter (λ one. denotes_key all key one.1) (zip ts ds)))
     by true lt = omega arith
     by false lt = lt
 
@@ -227,13 +227,13 @@ has-place ts ds offset target h =
     let f = found-at ts ds offset target h in
     longer-places ts target.key ts ds f.0.index f.0.token (Some f.0.denotes) f.0.token_at f.0.denotes_at (keyed_so ts target.key f.0.denotes f.1)
 
-pub names-its-key : NamesItsKey
-names-its-key bytes name ds offset target small h is =
-    let f = found-at (cut 0 bytes) ds offset target h in
-    let one = keyed-at (cut 0 bytes) ds f.0.index f.0.denotes small f.0.denotes_at in
+pub names-its-key : StandsInOrder → NamesItsKey
+names-its-key stands bytes name ds offset target small h is =
+    let f = found-at (lexed bytes).tokens ds offset target h in
+    let one = keyed-at (lexed bytes) ds f.0.index f.0.denotes small f.0.denotes_at in
     let own : Some one.own ≡ Some f.0.token = sym one.own_at ∙ f.0.token_at in
     let same : one.own ≡ f.0.token = cc in
-    sym (named bytes ds small name target.key f.0.index f.0.denotes (inl is) f.0.denotes_at f.1) ∙ ap (λ (z : Token). z.text) same ∙ sym f.0.name
+    sym (named stands bytes ds small name target.key f.0.index f.0.denotes (inl is) f.0.denotes_at f.1) ∙ ap (λ (z : Token). z.text) same ∙ sym f.0.name
 
 -- what tokens denote, by their one derivation
 abbrev meaning-of : List Token → Option (List Part) → Bool → Option (List (Option Denotation))
@@ -241,10 +241,18 @@ meaning-of tokens None b = None
 meaning-of tokens (Some ps) true = resolved 0 file_scope (zip tokens ps)
 meaning-of tokens (Some ps) false = None
 
+abbrev meaning-by : List Token → Option Fault → Option (List Part) → Bool → Option (List (Option Denotation))
+meaning-by tokens (Some fault) o b = None
+meaning-by tokens None o b = meaning-of tokens o b
+
 pub decided : Decided
-decided = (λ tokens. meaning-of tokens (read (state.Start level.File) tokens) (has_plain_names tokens), λ tokens. by tokens (read (state.Start level.File) tokens) refl (has_plain_names tokens) refl)
+decided = (
+  λ text. meaning-by text.tokens text.fault (read (state.Start level.File) text.tokens) (has_plain_names text.tokens),
+  λ text. by text text.fault refl (read (state.Start level.File) text.tokens) refl (has_plain_names text.tokens) refl,
+)
   where
-    by : (tokens : List Token) (o : Option (List Part)) → read (state.Start level.File) tokens ≡ o → (b : Bool) → has_plain_names tokens ≡ b → Resolves tokens (meaning-of tokens o b)
-    by tokens None e b h = λ denotes small. has_parts tokens None e small.1.0 small.1.1.0
-    by tokens (Some ps) e true h = resolves tokens ps (resolved 0 file_scope (zip tokens ps)) h (has_parts tokens (Some ps) e) refl
-    by tokens (Some ps) e false h = λ denotes small. let no : false ≡ true = sym h ∙ small.0 in let bad : ⊥ = cc in bad
+    by : (text : Lexed) (f : Option Fault) → text.fault ≡ f → (o : Option (List Part)) → read (state.Start level.File) text.tokens ≡ o → (b : Bool) → has_plain_names text.tokens ≡ b → Resolves text (meaning-by text.tokens f o b)
+    by text (Some fault) g o e b h = λ denotes small. let no : Some fault ≡ None = sym g ∙ small.0 in let bad : ⊥ = cc in bad
+    by text None g None e b h = λ denotes small. has_parts text.tokens None e small.2.0 small.2.1.0
+    by text None g (Some ps) e true h = resolves text ps (resolved 0 file_scope (zip text.tokens ps)) g h (has_parts text.tokens (Some ps) e) refl
+    by text None g (Some ps) e false h = λ denotes small. let no : false ≡ true = sym h ∙ small.1 in let bad : ⊥ = cc in bad

@@ -5,7 +5,7 @@ use Rattle.std.specs.Prelude.{if◌then◌else◌, bytes_eq, ◌==◌}
 use Rattle.std.specs.List.{find, zip, filter}
 use Rattle.std.specs.Option.{option_map, option_or, option_and_then}
 use Rattle.cr_base.specs.Substitution.{Rise}
-use Rattle.cr_small.specs.Tokens.{Token}
+use Rattle.cr_lex.specs.Lexing.{Token}
 use Rattle.cr_small.specs.Terminals.{terminal_of}
 use Rattle.cr_small.specs.Tree.{External, leaves, parts, Derives}
 use Rattle.cr_small.specs.Declarations.{Entry, is_in, last_in, lookup, is_linked, first_linked, token_or, entity_of, is_redeclared}
@@ -187,7 +187,7 @@ eq-true n = eq-eqb n n refl
 
 pub InOrder-end : (ts : List Token) (from end : ℕ) → InOrder from ts end → from ≤ end
 InOrder-end [] from end h = h
-InOrder-end (t ∷ ts) from end h = let k = InOrder-end ts (t.offset + length t.text) end h.1 in omega (arith, h.0)
+InOrder-end (t ∷ ts) from end h = let k = InOrder-end ts (t.at + length t.text) end h.1 in omega (arith, h.0)
 
 -- a token that denotes an entity is as long as its name
 pub same-length : (f : ℕ → List ℕ) (entity : ℕ) (t : Token) (d : Option Denotation) → SpelledOne f t.text d → denotes_entity entity d ≡ true → t.text ≡ f entity
@@ -198,12 +198,12 @@ pub rise-places : (f : ℕ → List ℕ) (entity : ℕ) (ts : List Token) (ds : 
 rise-places f entity [] ds from end h all = h
 rise-places f entity (t ∷ ts) [] from end h all = InOrder-end (t ∷ ts) from end h
 rise-places f entity (t ∷ ts) (d ∷ ds) from end h all =
-    by (denotes_entity entity d) refl (rise-places f entity ts ds (t.offset + length t.text) end h.1 all.1)
+    by (denotes_entity entity d) refl (rise-places f entity ts ds (t.at + length t.text) end h.1 all.1)
   where
     places : List ℕ
     places = places_of entity (zip ts ds)
 
-    by : (b : Bool) → denotes_entity entity d ≡ b → Rise (t.offset + length t.text) (places_of entity (zip ts ds)) (length (f entity)) end
-        → Rise from (map (λ one. one.0.offset) (if b then (t, d) ∷ filter (λ one. denotes_entity entity one.1) (zip ts ds) else filter (λ one. denotes_entity entity one.1) (zip ts ds))) (length (f entity)) end
-    by true e rest = (h.0, subst (λ n. Rise (t.offset + n) (places_of entity (zip ts ds)) (length (f entity)) end) (ap length (same-length f entity t d all.0 e)) rest)
-    by false e rest = rise_down (places_of entity (zip ts ds)) (t.offset + length t.text) from (length (f entity)) end (omega (arith, h.0)) rest
+    by : (b : Bool) → denotes_entity entity d ≡ b → Rise (t.at + length t.text) (places_of entity (zip ts ds)) (length (f entity)) end
+        → Rise from (map (λ one. one.0.at) (if b then (t, d) ∷ filter (λ one. denotes_entity entity one.1) (zip ts ds) else filter (λ one. denotes_entity entity one.1) (zip ts ds))) (length (f entity)) end
+    by true e rest = (h.0, subst (λ n. Rise (t.at + n) (places_of entity (zip ts ds)) (length (f entity)) end) (ap length (same-length f entity t d all.0 e)) rest)
+    by false e rest = rise_down (places_of entity (zip ts ds)) (t.at + length t.text) from (length (f entity)) end (omega (arith, h.0)) rest

@@ -3,9 +3,11 @@ use Rattle.std.proofs.Common.{◌≡◌, ℕ, ◌+◌, ◌-◌, ◌<◌, ◌≤�
 use Rattle.std.specs.Prelude.{if◌then◌else◌}
 use Rattle.std.specs.Option.{option_map}
 use Rattle.std.proofs.lemmas.List.{drop_more, drop_all, take_rest}
-use Rattle.cr_small.specs.Tokens.{Token}
-use Rattle.cr_small.specs.Seen.{token_of}
-use Rattle.cr_small.specs.declared.token.Token as code
+use Rattle.cr_lex.specs.Lexing.{Token}
+use Rattle.cr_base.specs.declared.token.PpTok.{PpTok}
+use Rattle.cr_base.specs.declared.token.PpKind.TheVariants.{Ident}
+use Rattle.cr_base.specs.declared.token.Origin.TheVariants.{At}
+use Rattle.cr_lex.specs.Seen.{seen}
 use Rattle.cr_small.specs.Terminals.{terminal_of}
 use Rattle.cr_small.specs.Tree.{Leaf, leaves, parts}
 use Rattle.cr_small.specs.Derivation.{HasParts}
@@ -56,6 +58,20 @@ has_parts tokens (Some does) e = by (run (state.Start level.File) (terminals_of 
         let same : map (λ l. l.part) ls ≡ does = cc in
         (s.1.0, sym s.0 ∙ ap terminals s.1.1, sym same ∙ ap (map (λ l. l.part)) s.1.1)
 
+-- what is read where there is no token
+abbrev pub no_token : PpTok
+no_token = record {
+  kind = Ident;
+  text = record { 0 = 0 };
+  origin = At (record { path = record { 0 = 0 }; offset = 0 });
+  site = record { path = record { 0 = 0 }; offset = 0 };
+  line = 0;
+  end = 0;
+  space = false;
+  first = false;
+  joined = false;
+}
+
 -- the tokens from an index on begin with the one at the index
 pub from_index : {X : Type 0} (f : X → Token) (xs : List X) (i : ℕ) (x : X) → i < length xs → map f (drop i xs) ≡ f (get_or xs i x) ∷ map f (drop (i + 1) xs)
 from_index f xs i x h = ap (map f) (drop_more xs i x h)
@@ -64,38 +80,36 @@ pub moved : (done new : List Part) (p : Part) (all rest : Option (List Part)) �
 moved done new p all None e n = e
 moved done new p all (Some ps) e n = e ∙ ap (λ x. Some x) (sym (append_assoc done (p ∷ []) ps) ∙ ap (λ l. l ++ ps) (sym n))
 
--- the move that the reader makes at an index of the tokens
-pub step_at : (tokens : List code.Token) (i : ℕ) (x : code.Token) (s : State) (terminal : Terminal) (calls : Bool) (found : Option Move)
-    → terminal ≡ terminal_of (get_or tokens i x).text.now → calls ≡ opens (map token_of (take (length tokens - (i + 1)) (drop (i + 1) tokens))) → found ≡ step s terminal calls
-    → step s (terminal_of (token_of (get_or tokens i x)).text) (opens (map token_of (drop (i + 1) tokens))) ≡ found
-step_at tokens i x s terminal calls found a b c =
-    let d : calls ≡ opens (map token_of (drop (i + 1) tokens)) = b ∙ ap (λ l. opens (map token_of l)) (take_rest tokens (i + 1)) in
-    ap (λ t. step s t (opens (map token_of (drop (i + 1) tokens)))) (sym a) ∙ ap (step s terminal) (sym d) ∙ sym c
+module _ (names : List (List ℕ)) where
+  -- the move that the reader makes at an index of the tokens
+  pub step_at : (tokens : List PpTok) (i : ℕ) (x : PpTok) (s : State) (terminal : Terminal) (calls : Bool) (found : Option Move)
+      → terminal ≡ terminal_of (seen names (get_or tokens i x)).text → calls ≡ opens (map (seen names) (take (length tokens - (i + 1)) (drop (i + 1) tokens))) → found ≡ step s terminal calls
+      → step s (terminal_of (seen names (get_or tokens i x)).text) (opens (map (seen names) (drop (i + 1) tokens))) ≡ found
+  step_at tokens i x s terminal calls found a b c =
+      let d : calls ≡ opens (map (seen names) (drop (i + 1) tokens)) = b ∙ ap (λ l. opens (map (seen names) l)) (take_rest tokens (i + 1)) in
+      ap (λ t. step s t (opens (map (seen names) (drop (i + 1) tokens)))) (sym a) ∙ ap (step s terminal) (sym d) ∙ sym c
 
-abbrev pub no_token : code.Token
-no_token = record { offset = 0; text = record { ref_ptr = (0, 0); now = [] } }
+  module _ (d : PpTok) (tokens : List PpTok) (i : ℕ) (s : State) (terminal : Terminal) (calls : Bool) (found : Option Move)
+      (within : i < length tokens) (a : terminal ≡ terminal_of (seen names (get_or tokens i d)).text)
+      (b : calls ≡ opens (map (seen names) (take (length tokens - (i + 1)) (drop (i + 1) tokens)))) (c : found ≡ step s terminal calls) where
+    pub read_stops_at : found ≡ None → read s (map (seen names) (drop i tokens)) ≡ None
+    read_stops_at none =
+        ap (read s) (from_index (seen names) tokens i d within)
+        ∙ read-stop s (seen names (get_or tokens i d)) (map (seen names) (drop (i + 1) tokens)) (step_at tokens i d s terminal calls found a b c ∙ none)
 
-module _ (tokens : List code.Token) (i : ℕ) (s : State) (terminal : Terminal) (calls : Bool) (found : Option Move)
-    (within : i < length tokens) (a : terminal ≡ terminal_of (get_or tokens i no_token).text.now)
-    (b : calls ≡ opens (map token_of (take (length tokens - (i + 1)) (drop (i + 1) tokens)))) (c : found ≡ step s terminal calls) where
-  pub read_stops_at : found ≡ None → read s (map token_of (drop i tokens)) ≡ None
-  read_stops_at none =
-      ap (read s) (from_index token_of tokens i no_token within)
-      ∙ read-stop s (token_of (get_or tokens i no_token)) (map token_of (drop (i + 1) tokens)) (step_at tokens i no_token s terminal calls found a b c ∙ none)
+    pub read_moves_at : (m : Move) → found ≡ Some m → read s (map (seen names) (drop i tokens)) ≡ option_map (λ ps. m.part ∷ ps) (read m.next (map (seen names) (drop (i + 1) tokens)))
+    read_moves_at m some =
+        ap (read s) (from_index (seen names) tokens i d within)
+        ∙ read-move s (seen names (get_or tokens i d)) (map (seen names) (drop (i + 1) tokens)) m (step_at tokens i d s terminal calls found a b c ∙ some)
 
-  pub read_moves_at : (m : Move) → found ≡ Some m → read s (map token_of (drop i tokens)) ≡ option_map (λ ps. m.part ∷ ps) (read m.next (map token_of (drop (i + 1) tokens)))
-  read_moves_at m some =
-      ap (read s) (from_index token_of tokens i no_token within)
-      ∙ read-move s (token_of (get_or tokens i no_token)) (map token_of (drop (i + 1) tokens)) m (step_at tokens i no_token s terminal calls found a b c ∙ some)
-
--- the reader at the end of the tokens
-pub read_ended : (tokens : List code.Token) (i : ℕ) (s : State) (done : List Part) (b : Bool) → length tokens ≤ i → is_end s ≡ b
-    → read (state.Start level.File) (map token_of tokens) ≡ option_map (λ ps. done ++ ps) (read s (map token_of (drop i tokens)))
-    → HasParts (map token_of tokens) (if b then Some done else None)
-read_ended tokens i s done b past e h =
-    has_parts (map token_of tokens) (if b then Some done else None)
-    (h ∙ ap (λ l. option_map (λ ps. done ++ ps) (read s (map token_of l))) (drop_all i tokens past) ∙ ap (option_map (λ ps. done ++ ps)) (read-end s b e) ∙ by b)
-  where
-    by : (b : Bool) → option_map (λ ps. done ++ ps) (if b then Some [] else None) ≡ (if b then Some done else None)
-    by true = ap (λ x. Some x) (append-nil done)
-    by false = refl
+  -- the reader at the end of the tokens
+  pub read_ended : (tokens : List PpTok) (i : ℕ) (s : State) (done : List Part) (b : Bool) → length tokens ≤ i → is_end s ≡ b
+      → read (state.Start level.File) (map (seen names) tokens) ≡ option_map (λ ps. done ++ ps) (read s (map (seen names) (drop i tokens)))
+      → HasParts (map (seen names) tokens) (if b then Some done else None)
+  read_ended tokens i s done b past e h =
+      has_parts (map (seen names) tokens) (if b then Some done else None)
+      (h ∙ ap (λ l. option_map (λ ps. done ++ ps) (read s (map (seen names) l))) (drop_all i tokens past) ∙ ap (option_map (λ ps. done ++ ps)) (read-end s b e) ∙ by b)
+    where
+      by : (b : Bool) → option_map (λ ps. done ++ ps) (if b then Some [] else None) ≡ (if b then Some done else None)
+      by true = ap (λ x. Some x) (append-nil done)
+      by false = refl

@@ -1,6 +1,6 @@
 -- The derivation of a list of tokens, where it has one.
 use Rattle.std.specs.Prelude.{◌≡◌, List, Option, Some, None}
-use Rattle.cr_small.specs.Tokens.{Token}
+use Rattle.cr_lex.specs.Lexing.{Token}
 use Rattle.cr_small.specs.Tree.{External, Derives, parts}
 use Rattle.cr_small.specs.declared.grammar.Part.{Part}
 

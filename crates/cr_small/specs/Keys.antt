@@ -1,7 +1,7 @@
 -- What tells the entities of a text apart, and those of several texts.
 use Rattle.std.specs.Prelude.{ℕ, Bool, true, false, not, ◌&&◌, List, Option, ◌==◌, bytes_eq, slice_get}
 use Rattle.std.specs.Option.{option_map}
-use Rattle.cr_small.specs.Tokens.{Token}
+use Rattle.cr_lex.specs.Lexing.{Token}
 use Rattle.cr_small.specs.declared.binder.Denotation.{Denotation}
 
 -- The key of an entity: its name where it has external linkage, and else the place of its first declaring token
@@ -16,7 +16,7 @@ has_external_linkage d = d.linked && not d.internal
 
 abbrev pub key_of_token : Bool → Token → Key
 key_of_token true t = external t.text
-key_of_token false t = at t.offset
+key_of_token false t = at t.at
 
 -- the key of what a token denotes
 abbrev pub key_of : List Token → Denotation → Option Key

@@ -1,4 +1,3 @@
-pub mod Tokens
 pub mod Terminals
 pub mod Tree
 pub mod Derivation
@@ -12,3 +11,4 @@ pub mod Laws
 pub mod Machine
 pub mod Holding
 pub mod Seen
+pub mod Texts

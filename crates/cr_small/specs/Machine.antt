@@ -1,7 +1,7 @@
 -- The moves of the reader of the small form. No contract of a public call cites them.
 use Rattle.std.specs.Prelude.{Bool, true, false, List, [], ◌∷◌, Option, Some, None, if◌then◌else◌}
 use Rattle.std.specs.Option.{option_map, option_and_then}
-use Rattle.cr_small.specs.Tokens.{Token}
+use Rattle.cr_lex.specs.Lexing.{Token}
 use Rattle.cr_small.specs.Terminals.{terminal_of}
 use Rattle.cr_small.specs.Tree.{Leaf}
 use Rattle.cr_small.specs.declared.terminal.Terminal.{Terminal}

@@ -2,7 +2,7 @@
 use Rattle.std.specs.Prelude.{ℕ, ◌+◌, Bool, true, false, ◌&&◌, List, [], ◌∷◌, ◌++◌, Option, Some, None, if◌then◌else◌}
 use Rattle.std.specs.Option.{option_map, option_and_then}
 use Rattle.std.specs.List.{zip}
-use Rattle.cr_small.specs.Tokens.{Token}
+use Rattle.cr_lex.specs.Lexing.{Token}
 use Rattle.cr_small.specs.Tree.{External, parts}
 use Rattle.cr_small.specs.Declarations.{Entry, lookup, is_internal, is_seen_internal, entity_of, is_redeclared}
 use Rattle.cr_small.specs.declared.grammar.Storage.{Storage}

@@ -1,14 +1,17 @@
 -- What the code holds, without where it lies in memory.
-use Rattle.cr_small.specs.Tokens as tokens
+use Rattle.std.specs.Prelude.{List, map}
+use Rattle.cr_lex.specs.Lexing.{Token}
+use Rattle.cr_lex.specs.Seen.{seen}
 use Rattle.cr_small.specs.Renaming as renaming
-use Rattle.cr_small.specs.declared.token.Token.{Token}
 use Rattle.cr_small.specs.Keys as keys
+use Rattle.cr_small.specs.declared.text.SmallText.{SmallText}
 use Rattle.cr_small.specs.declared.renaming.EntityKey.{EntityKey}
 use Rattle.cr_small.specs.declared.renaming.EntityKey.TheVariants as key
 use Rattle.cr_small.specs.declared.renaming.Target.{Target}
 
-abbrev pub token_of : Token → tokens.Token
-token_of t = record { offset = t.offset; text = t.text.now }
+-- the tokens of a text
+abbrev pub tokens_of : SmallText → List Token
+tokens_of text = map (seen text.names) text.tokens
 
 abbrev pub key_of_code : EntityKey → keys.Key
 key_of_code (key.External name) = keys.external name.now

@@ -1,6 +1,6 @@
 -- The texts of the small form, and what their tokens denote.
 use Rattle.std.specs.Prelude.{◌≡◌, true, List, Option, Some, None}
-use Rattle.cr_small.specs.Tokens.{Token}
+use Rattle.cr_lex.specs.Lexing.{Token, Lexed}
 use Rattle.cr_small.specs.Terminals.{has_plain_names}
 use Rattle.cr_small.specs.Tree.{External, Derives}
 use Rattle.cr_small.specs.Resolution.{resolution}
@@ -11,15 +11,17 @@ use Rattle.cr_small.specs.declared.binder.Denotation.{Denotation}
 abbrev pub IsWellFormed : List Token → List External → List (Option Denotation) → Type 0
 IsWellFormed tokens tree denotes = Derives tokens tree × (resolution tokens tree ≡ Some denotes)
 
--- The tokens are those of a well-formed text in which no name begins with an underscore.
-abbrev pub IsSmallForm : List Token → List (Option Denotation) → Type 0
-IsSmallForm tokens denotes = (has_plain_names tokens ≡ true) × ((tree : List External) × IsWellFormed tokens tree denotes)
+-- What a text is cut into is without a fault, and its tokens are those of a well-formed text in which no name begins
+-- with an underscore. No line is a directive, since `#` is no terminal.
+abbrev pub IsSmallForm : Lexed → List (Option Denotation) → Type 0
+IsSmallForm text denotes =
+    (text.fault ≡ None) × (has_plain_names text.tokens ≡ true) × ((tree : List External) × IsWellFormed text.tokens tree denotes)
 
--- what each token denotes; nothing where the tokens are not of the small form
-abbrev pub Resolves : List Token → Option (List (Option Denotation)) → Type 0
-Resolves tokens None = (denotes : List (Option Denotation)) → IsSmallForm tokens denotes → ⊥
-Resolves tokens (Some denotes) = IsSmallForm tokens denotes
+-- what each token denotes; nothing where the text is not of the small form
+abbrev pub Resolves : Lexed → Option (List (Option Denotation)) → Type 0
+Resolves text None = (denotes : List (Option Denotation)) → IsSmallForm text denotes → ⊥
+Resolves text (Some denotes) = IsSmallForm text denotes
 
 -- The tokens of a text of the small form denote one thing.
 abbrev pub DenotesOne : Type 0
-DenotesOne = (tokens : List Token) (one other : List (Option Denotation)) → IsSmallForm tokens one → IsSmallForm tokens other → one ≡ other
+DenotesOne = (text : Lexed) (one other : List (Option Denotation)) → IsSmallForm text one → IsSmallForm text other → one ≡ other

@@ -6,7 +6,7 @@
 --   Item     = number | id | id '(' ')'
 use Rattle.std.specs.Prelude.{◌≡◌, List, [], ◌∷◌, ◌++◌, map, Option, Some, None}
 use Rattle.std.specs.List.{flat_map}
-use Rattle.cr_small.specs.Tokens.{Token}
+use Rattle.cr_lex.specs.Lexing.{Token}
 use Rattle.cr_small.specs.Terminals.{terminal_of}
 use Rattle.cr_small.specs.declared.terminal.Terminal.{Terminal}
 use Rattle.cr_small.specs.declared.terminal.Terminal.TheVariants as terminal

@@ -1,14 +1,14 @@
 //! The derivation of a text, which says what each of its tokens does.
 ghost use Rattle.std.specs.Prelude.{◌≡◌, ◌∷◌, List, map, IfOk, drop, Some, None};
 ghost use Rattle.std.specs.Option.{option_map};
-ghost use Rattle.cr_small.specs.Seen.{token_of};
+ghost use Rattle.cr_lex.specs.Seen.{seen};
 ghost use Rattle.cr_small.specs.Machine as machine;
 ghost use Rattle.cr_small.specs.Terminals.{terminal_of};
 ghost use Rattle.cr_small.specs.Derivation.{HasParts};
 
+use crate::spelling::spelling;
 use crate::terminal::{Terminal, terminal_of};
-use crate::token::Token;
-use cr_base::OutOfMemory;
+use cr_base::{NameTable, OutOfMemory, PpTok};
 use std::alloc::Global;
 
 /// The storage word of a declaration.
@@ -155,23 +155,28 @@ fn is_end(state: State) -> bool
 }
 
 // Whether the first of the tokens is a '('.
-fn opens(tokens: &[Token]) -> bool
-    ensures { result ≡ machine.opens (map token_of tokens.now) }
+fn opens(names: &NameTable, tokens: &[PpTok]) -> bool
+    ensures { result ≡ machine.opens (map (seen names.now) tokens.now) }
 {
     match tokens {
-        [first, ..] => terminal_of(first.text) == Terminal::Open,
+        [first, ..] => terminal_of(spelling(names, first.text)) == Terminal::Open,
         [] => false,
     }
 }
 
 /// What each token does in the one derivation of the tokens, or nothing where there is none.
-pub fn read_parts(alloc: Global, tokens: &[Token]) -> Result<Option<Vec<Part>>, OutOfMemory>
-    ensures { IfOk result (λ read. HasParts (map token_of tokens.now) (option_map (λ v. v.items) read)) }
+pub fn read_parts(
+    alloc: Global,
+    names: &NameTable,
+    tokens: &[PpTok],
+) -> Result<Option<Vec<Part>>, OutOfMemory>
+    ensures { IfOk result (λ read. HasParts (map (seen names.now) tokens.now) (option_map (λ v. v.items) read)) }
 {
     let mut parts = Vec::with_capacity(alloc, tokens.len())?;
     let mut state = State::Start(Level::File);
     for (i, token) in tokens.iter().enumerate() {
-        let Some(step) = step(state, terminal_of(token.text), opens(&tokens[i + 1..])) else {
+        let terminal = terminal_of(spelling(names, token.text));
+        let Some(step) = step(state, terminal, opens(names, &tokens[i + 1..])) else {
             return Ok(None);
         };
         parts.push(step.part)?;

@@ -6,15 +6,16 @@ mod grammar;
 mod laws;
 mod renaming;
 mod scopes;
+mod spelling;
 mod terminal;
 #[cfg(test)]
 mod tests;
-mod token;
+mod text;
 
-pub use binder::{Denotation, resolve};
+pub use binder::Denotation;
 pub use laws::{
     a_target_has_a_place, a_target_names_its_key, denotations_are_one, every_text_is_decided,
     keys_move, places_rise, renaming_keeps_the_meaning,
 };
-pub use renaming::{EntityKey, Target, has_text, places_of, target_at};
-pub use token::{Token, cut};
+pub use renaming::{EntityKey, Target};
+pub use text::SmallText;

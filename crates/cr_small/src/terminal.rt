@@ -3,10 +3,10 @@ ghost use Rattle.std.specs.Prelude.{◌≡◌, ◌∷◌, [], map};
 ghost use Rattle.std.specs.List.{list_all};
 ghost use Rattle.cr_base.specs.Names as names;
 ghost use Rattle.cr_small.specs.Terminals as terminals;
-ghost use Rattle.cr_small.specs.Seen.{token_of};
+ghost use Rattle.cr_lex.specs.Seen.{seen};
 
-use crate::token::Token;
-use cr_base::{is_digit, is_identifier, is_keyword};
+use crate::spelling::spelling;
+use cr_base::{NameTable, PpTok, is_digit, is_identifier, is_keyword};
 
 /// What a token is in the grammar of the small form. `Other` is none of its terminals.
 #[derive(Clone, Copy, PartialEq, Eq)]
@@ -106,11 +106,11 @@ fn begins_with_underscore(text: &[u8]) -> bool
     }
 }
 
-pub fn has_plain_names(tokens: &[Token]) -> bool
-    ensures { result ≡ terminals.has_plain_names (map token_of tokens.now) }
+pub fn has_plain_names(names: &NameTable, tokens: &[PpTok]) -> bool
+    ensures { result ≡ terminals.has_plain_names (map (seen names.now) tokens.now) }
 {
     for token in tokens {
-        if begins_with_underscore(token.text) {
+        if begins_with_underscore(spelling(names, token.text)) {
             return false;
         }
     }

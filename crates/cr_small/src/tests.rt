@@ -1,17 +1,18 @@
 //! Values from C11's rules on scope and linkage, counted by hand.
 use crate::{
-    EntityKey, a_target_has_a_place, a_target_names_its_key, cut, denotations_are_one,
-    every_text_is_decided, has_text, keys_move, places_of, places_rise, renaming_keeps_the_meaning,
-    resolve, target_at,
+    EntityKey, SmallText, a_target_has_a_place, a_target_names_its_key, denotations_are_one,
+    every_text_is_decided, keys_move, places_rise, renaming_keeps_the_meaning,
 };
 use cr_base::OutOfMemory;
 use std::alloc::Global;
 use std::test::Fail;
 
-fn is_of_the_small_form(alloc: Global, text: &[u8]) -> Result<bool, OutOfMemory> {
-    let tokens = cut(alloc, text)?;
-    let found = resolve(alloc, &tokens)?;
-    Ok(found.is_some())
+// A text of the small form of at most 1,000 bytes.
+fn read(alloc: Global, bytes: &[u8]) -> Result<Option<SmallText>, OutOfMemory> {
+    if bytes.len() > 1000 {
+        return Ok(None);
+    }
+    SmallText::read(alloc, bytes)
 }
 
 fn is_same(key: EntityKey, wanted: EntityKey) -> bool {
@@ -34,14 +35,16 @@ struct Case<'a> {
 }
 
 fn holds(alloc: Global, case: &Case) -> Result<bool, OutOfMemory> {
-    let tokens = cut(alloc, case.text)?;
-    let Some(denotes) = resolve(alloc, &tokens)? else {
+    let Some(text) = read(alloc, case.text)? else {
         return Ok(false);
     };
-    let Some(target) = target_at(&tokens, &denotes, case.offset) else {
+    if text.denotes.items().len() != text.tokens.items().len() {
+        return Ok(false);
+    }
+    let Some(target) = text.target_at(case.offset) else {
         return Ok(false);
     };
-    let places = places_of(alloc, &tokens, &denotes, target.key)?;
+    let places = text.places_of(alloc, target.key)?;
     Ok(
         is_same(target.key, case.key)
             && target.name == case.name
@@ -64,7 +67,7 @@ fn the_laws_are_called(_rt: HostRuntime) -> Result<(), Fail> {
 
 #[test]
 fn texts_are_of_the_small_form_or_not(rt: HostRuntime) -> Result<(), Fail> {
-    let texts: [(&[u8], bool); 28] = [
+    let texts: [(&[u8], bool); 38] = [
         (b"", true),
         (b"int x; int f(void){ return x + 10; }", true),
         (b"int foo;int f(void){int foo;return foo;}", true),
@@ -93,9 +96,19 @@ fn texts_are_of_the_small_form_or_not(rt: HostRuntime) -> Result<(), Fail> {
         (b"int static foo;", false),
         (b"int f(void){static int x;}", false),
         (b"int f(void){extern int x;}", false),
+        (b"int/**/foo;// x\nint f(void){return foo/* ; */;}", true),
+        (b"in\\\nt fo\\\r\no;/* # */int f(void);", true),
+        (b"\x0bint\x0cfoo\r\n;// x", true),
+        (b"int foo; /* x", false),
+        (b"int foo;??=", false),
+        (b"#pragma x\nint foo;", false),
+        (b"int foo;\n  # define x", false),
+        (b"int foo=1u;", false),
+        (b"int foo='1';", false),
+        (b"int foo; $", false),
     ];
     for (text, small) in &texts {
-        assert_eq!(rt; is_of_the_small_form(rt.alloc(), text)?, *small);
+        assert_eq!(rt; read(rt.alloc(), text)?.is_some(), *small);
     }
     Ok(())
 }
@@ -159,6 +172,14 @@ fn a_name_is_told_by_its_key_and_stands_at_its_places(rt: HostRuntime) -> Result
             at_file_scope: true,
             places: &[4, 34],
         },
+        Case {
+            text: b"int /* foo */ fo\\\no;int f(void){return foo;}",
+            offset: 17,
+            name: b"foo",
+            key: EntityKey::External(b"foo"),
+            at_file_scope: true,
+            places: &[14, 39],
+        },
     ];
     for case in &cases {
         assert!(rt; holds(rt.alloc(), case)?);
@@ -169,10 +190,23 @@ fn a_name_is_told_by_its_key_and_stands_at_its_places(rt: HostRuntime) -> Result
 #[test]
 fn a_keyword_is_a_text_and_no_target(rt: HostRuntime) -> Result<(), Fail> {
     let alloc = rt.alloc();
-    let tokens = cut(alloc, b"static int foo;")?;
-    let denotes = resolve(alloc, &tokens)?.ok_or("not of the small form")?;
-    assert!(rt; has_text(&tokens, b"static"));
-    assert!(rt; !has_text(&tokens, b"fo"));
-    assert!(rt; target_at(&tokens, &denotes, 0).is_none());
+    let text = read(alloc, b"static int foo;")?.ok_or("not of the small form")?;
+    assert!(rt; text.has_text(b"static"));
+    assert!(rt; !text.has_text(b"fo"));
+    assert_eq!(rt; text.denotes.items().len(), text.tokens.items().len());
+    assert!(rt; text.target_at(0).is_none());
+    Ok(())
+}
+
+#[test]
+fn a_name_over_a_joined_line_is_unspellable(rt: HostRuntime) -> Result<(), Fail> {
+    let alloc = rt.alloc();
+    let bytes = b"int foo;int f(void){return fo\\\no;}".as_slice();
+    assert!(rt; bytes.len() <= 1000);
+    let text = SmallText::read(alloc, bytes)?.ok_or("not of the small form")?;
+    let foo = text.first_unspellable(bytes, b"bar", EntityKey::External(b"foo"));
+    assert_eq!(rt; foo, Some(27));
+    let f = text.first_unspellable(bytes, b"bar", EntityKey::External(b"f"));
+    assert_eq!(rt; f, None);
     Ok(())
 }

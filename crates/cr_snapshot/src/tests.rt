@@ -176,3 +176,33 @@ fn a_file_of_more_than_16_mebibytes_is_refused(rt: HostRuntime) -> Result<(), Fa
     assert_eq!(rt; text.len(), 16_777_217);
     Ok(())
 }
+
+// Makes an empty file known, and answers whether it fits.
+fn fits(alloc: Global, snapshot: &mut Snapshot, path: PathText) -> Result<bool, OutOfMemory> {
+    let stands_apart = path.bytes().starts_with(b"//");
+    if stands_apart || !matches!(snapshot.get(&path), Found::Unknown) {
+        return Err(OutOfMemory);
+    }
+    match snapshot.know(path, Some(Vec::new(alloc))) {
+        Ok(_) => Ok(true),
+        Err(KnowFault::LimitFiles) => Ok(false),
+        Err(KnowFault::OutOfMemory) => Err(OutOfMemory),
+    }
+}
+
+// One of 65,536 names of four letters.
+fn letters(n: u32) -> [u8; 4] {
+    let letter = |shift: u32| b"abcdefghijklmnop"[(n >> shift & 15) as usize];
+    [letter(12), letter(8), letter(4), letter(0)]
+}
+
+#[test]
+fn a_snapshot_holds_65536_files(rt: HostRuntime) -> Result<(), Fail> {
+    let alloc = rt.alloc();
+    let mut snapshot = Snapshot::new(alloc)?;
+    for n in 0..65_536 {
+        assert!(rt; fits(alloc, &mut snapshot, path(alloc, &letters(n))?)?);
+    }
+    assert!(rt; !fits(alloc, &mut snapshot, path(alloc, b"one more")?)?);
+    Ok(())
+}

@@ -1,16 +1,17 @@
 use Rattle.std.proofs.Common.{◌∙◌, arith, drop}
 use Rattle.std.proofs.lemmas.List.{drop_all}
-use Rattle.cr_expand.proofs.FullMarks.{full_more, full_all}
+use Rattle.cr_macros.specs.Substitution as spec
+use Rattle.cr_expand.proofs.FullMarks.{marked_more, marked_all}
 use Rattle.cr_expand.proofs.wanted.expanded_arguments.Goals as goal
 
 pub loop-i-preserved : goal.loop-i-preserved
 loop-i-preserved c = (
   c.mark.ensures.length ∙ c.loop-i.invariant.0,
-  λ names n h. full_more names n c.args.items.now c.loop-i.i _ _ _ _ _ c.loop-i-test.true (c.expanded_argument_of.ensures names n) (c.mark.ensures.marked n (omega (arith, h, c.loop-i.invariant.0))) (c.loop-i.invariant.1 names n h),
+  λ names n h. marked_more names (spec.is_full n) c.args.items.now c.loop-i.i _ _ _ _ _ c.loop-i-test.true (c.expanded_argument_of.ensures names n) (c.mark.ensures.marked n (omega (arith, h, c.loop-i.invariant.0))) (c.loop-i.invariant.1 names n h),
 )
 
 pub returns : goal.returns
 returns c = λ names. (
   c.loop-i.invariant.0,
-  λ n h. full_all names n (drop c.loop-i.i c.args.items.now) _ _ (drop_all c.loop-i.i c.args.items.now (omega arith)) (c.loop-i.invariant.1 names n h),
+  λ n h. marked_all names (spec.is_full n) (drop c.loop-i.i c.args.items.now) _ _ (drop_all c.loop-i.i c.args.items.now (omega arith)) (c.loop-i.invariant.1 names n h),
 )

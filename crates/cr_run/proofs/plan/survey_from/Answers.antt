@@ -11,7 +11,7 @@ use Rattle.cr_run.proofs.plan.survey_from.Goals as goal
 pub read_units-requires : goal.read_units-requires
 read_units-requires g c = record {
   named = λ name h.
-      named_for c.a_target_names_its_key.ensures c.args.text.now.bytes.now c.args.text.now.denotes.now c.args.goal.now.offset (option_map target_of_code c.args.target.now) c.requires.small (sym c.requires.target) name (sym c.key_of.ensures ∙ h)
+      named_for c.a_target_names_its_key.ensures c.args.bytes.now c.args.text.now.denotes c.args.goal.now.offset (option_map target_of_code c.args.target.now) c.requires.text.small (sym c.requires.target) name (sym c.key_of.ensures ∙ h)
       ∙ sym c.name_of.ensures;
 }
 

@@ -151,6 +151,10 @@ returns-in_ok-step-in-ArgumentEnd-clause-smaller c =
     let u = next_end c.args.names.now c.args.self.now.sets c.args.macros.now (text_of c.args.names.now c.args.self.now.file) [] c.args.self.now.slots.items (c.in-ArgumentEnd.ensures.means (text_of c.args.names.now c.args.self.now.file) [] (λ _. refl)) in
     ended_smaller c.expansion_follows_the_rules.ensures c.args.names.now c.end_argument.new.names c.args.macros.now c.args.self.now c.end_argument.new.self c.requires.machine c.requires.macros c.in_ok-step-in-ArgumentEnd.ensures.same u.0 u.1 c.in_ok-step-in-ArgumentEnd.step (c.in_ok-step-in-ArgumentEnd.ensures.ended u.0 u.1)
 
+pub enter-requires-clause-count : goal.enter-requires-clause-count
+enter-requires-clause-count c =
+    (next_call c.args.names.now c.args.self.now.sets c.args.macros.now (text_of c.args.names.now c.args.self.now.file) [] c.args.self.now.slots.items c.in-Call.h c.in-Call.m c.in-Call.count c.in-Call.close (c.in-Call.ensures.means (text_of c.args.names.now c.args.self.now.file) [] (λ _. refl))).2
+
 pub returns-in_err-enter-in-Call-clause-faults : goal.returns-in_err-enter-in-Call-clause-faults
 returns-in_err-enter-in-Call-clause-faults c = λ more q.
     let p = err_from_is_err_and c.from_residual-in_err-enter-in-Call.result c.from_residual-in_err-enter-in-Call.ensures.1 in

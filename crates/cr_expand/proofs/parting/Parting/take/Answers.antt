@@ -16,5 +16,10 @@ returns-in_ok-push-in-None-clause-taken c = (
   refl,
 )
 
-pub returns-in_ok-push-in-Some-clause-taken : goal.returns-in_ok-push-in-Some-clause-taken
-returns-in_ok-push-in-Some-clause-taken c = (λ sets. sym (c.in-Some.ensures.depth sets), refl, c.in_ok-push-in-Some.ensures.items, refl)
+pub returns-in_ok-keep-in-Some-clause-taken : goal.returns-in_ok-keep-in-Some-clause-taken
+returns-in_ok-keep-in-Some-clause-taken c = (
+  λ sets. sym (c.in-Some.ensures.depth sets),
+  ap (map (λ v. v.items)) c.in_ok-keep-in-Some.ensures.lists.0,
+  c.in_ok-keep-in-Some.ensures.list,
+  c.in_ok-keep-in-Some.ensures.lists.1,
+)

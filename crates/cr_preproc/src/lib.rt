@@ -1,0 +1,51 @@
+//! Preprocessing of a translation unit.
+#![tactic(auto)]
+
+ghost use Rattle.cr_preproc.specs.PreprocessingRun.{GoesOn, SnapshotsAgree};
+ghost use Rattle.cr_preproc.specs.Runs.{FollowsTheRules};
+ghost use Rattle.cr_preproc.specs.Frames.{OpensInFront};
+
+mod condition;
+mod definitions;
+mod directive;
+mod evaluate;
+mod header;
+mod include;
+mod line;
+mod open_ifs;
+mod reader;
+mod roles;
+mod search;
+mod trace;
+mod words;
+
+use cr_snapshot::known_files_stay_known;
+
+/// The expansion of a run is what the rules of expansion say of it, however often they are used, where a
+/// token of the result is given out as soon as it is found. It does nothing: its contract is the law.
+pub fn a_run_follows_its_rules()
+    ensures { FollowsTheRules }
+{}
+
+/// To open a file and to go on with others is to open it in front of them. It does nothing: its contract
+/// is the law.
+pub fn a_file_is_opened_in_front()
+    ensures { OpensInFront }
+{}
+
+/// Where more files are known, a unit that wanted no file is preprocessed as before, and one that wanted
+/// files does the same first. It does nothing: its contract is the law.
+pub fn preprocessing_goes_on()
+    ensures { GoesOn }
+{}
+
+/// A snapshot of which one more file is known still knows what it knew, with the same numbers. It does
+/// nothing: its contract is the law.
+pub fn larger_snapshots_agree()
+    ensures { SnapshotsAgree }
+{
+    known_files_stay_known();
+}
+
+#[cfg(test)]
+mod tests;
