@@ -27,16 +27,16 @@ use Rattle.cr_expand.specs.Running.{Waiting, Piece, Stands, Ends, current, behin
 use Rattle.cr_expand.specs.Slots.{tokens, ended, ends, begun, IsSlotKnown, AreSlotsKnown}
 use Rattle.cr_expand.specs.Turns.{list_of, IsCallUse}
 use Rattle.cr_expand.specs.Wanted.{is_wanted, is_whole}
-use Rattle.cr_expand.specs.Machines.{means_of, waiting_of, waiting, total, still, IsCallHeld, IsCallKnown, IsMachine, AreMacros, IsEntered, IsMiscounted, next_call}
+use Rattle.cr_expand.specs.Machines.{means_of, waiting_of, waiting, total, still, IsCallKnown, IsMachine, AreMacros, IsEntered, IsMiscounted, next_call}
 use Rattle.cr_expand.proofs.Telling.{no_memory}
 use Rattle.cr_expand.proofs.Kept.{held_kept, all_args_kept}
 use Rattle.cr_expand.proofs.Sets.{grows_same}
 use Rattle.cr_expand.proofs.Counting.{length_map}
 use Rattle.cr_expand.proofs.Going.{behind_before, with_done, IsDropped, goes_call, goes_wrong, predefined_over}
 use Rattle.cr_expand.proofs.Entering.{arguments_same, entered, goes_first, goes_next}
-use Rattle.cr_expand.proofs.Steps.{all_last, waiting_more, front, front_tokens, still_old, still_now, waiting_kept, front_kept, front_old, rest_known, calls_old, calls_held}
+use Rattle.cr_expand.proofs.Steps.{all_last, waiting_more, front, front_tokens, still_old, still_now, front_old, calls_old}
 use Rattle.cr_expand.proofs.Wholes.{all_kept_all, all_kept_text, put_kept_then}
-use Rattle.cr_expand.proofs.Calling.{lists_front, front_begun, texts_arguments, front_calls, all_kept, total_last, raw_known, lists_known, ended_known, begun_known, inside_known, ends_lists}
+use Rattle.cr_expand.proofs.Calling.{lists_front, front_begun, texts_arguments, all_kept, total_last, raw_known, lists_known, ended_known, begun_known, inside_known, ends_lists}
 use Rattle.cr_expand.proofs.KeptMachine.{pieces_kept}
 
 is_dropped_as : (a b : Bool) (ps qs : List Piece) → a ≡ b → IsDropped a ps qs → IsDropped b ps qs

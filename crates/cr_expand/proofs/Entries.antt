@@ -16,7 +16,7 @@ use Rattle.cr_expand.specs.HideSets.{Sets}
 use Rattle.cr_expand.specs.Held.{hidden, IsKnown}
 use Rattle.cr_expand.specs.Hiding.{IsHidden}
 use Rattle.cr_expand.specs.Frames.{Call}
-use Rattle.cr_expand.specs.Slots.{tokens, ended, begun, AreSlotsKnown, IsSlotKnown}
+use Rattle.cr_expand.specs.Slots.{tokens, begun, AreSlotsKnown, IsSlotKnown}
 use Rattle.cr_expand.specs.Wanted.{is_wanted, is_whole}
 use Rattle.cr_expand.specs.Machines.{AreTaken, IsEntered}
 use Rattle.cr_expand.proofs.PartedLists.{get_mid}

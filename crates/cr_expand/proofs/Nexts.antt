@@ -1,5 +1,5 @@
 -- What comes next, by the head.
-use Rattle.std.proofs.Common.{◌≡◌, ℕ, Bool, List, [], ◌∷◌, refl, sym, ap, subst, ◌∙◌, Some, None, Bor, ◌<◌, ◌^◌}
+use Rattle.std.proofs.Common.{◌≡◌, ℕ, List, [], ◌∷◌, sym, ap, subst, ◌∙◌, Some, Bor, ◌<◌, ◌^◌}
 use Rattle.cr_base.specs.declared.token.Place.{Place}
 use Rattle.cr_macros.specs.declared.macros.Macro.{Macro}
 use Rattle.cr_macros.specs.declared.words.Predefined.{Predefined as PredefinedMacro}

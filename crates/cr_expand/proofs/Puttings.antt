@@ -37,8 +37,9 @@ module _ (w : Watch) (s0 s1 : List Seen) (value : List Token) (left : ℕ) where
     events ++ Rule ∷ [],
     ap (λ x. after events (put_in x l)) h.0 ∙ ap (λ x. after events (put_in value x)) h.1 ∙ ap (after events) (paid (1 + length value) k),
     with_rule events h.2,
+    let u = uses_append events (Rule ∷ []) in omega (arith, u, q),
   )
-  gives (Stopped cause stopped) h k = absurd h
+  gives (Stopped cause stopped) h q k = absurd h
 
   pub faults_over : (r : Answer (List Token)) → Tells w s0 s1 r value left → left < 1 + length value → Faults (then_do r (λ ts. put_in ts)) fault.LimitMacros
   faults_over (Gave a l events) h k =

@@ -125,6 +125,7 @@ module _ (names new : List Text) (macros : Macros) (old now : Machine) (more : L
     hidden new now.sets h.hide.0,
     record {
       events = Rule ∷ [];
+      one = refl;
       goes = still_old [] (Stands (held names old.sets h) ∷ front names old.sets rest more) (ap (waiting names macros old.sets) i.0) (front_old (slot.Token h) rest e)
           ∙ outer_keeps table_of_old law (held names old.sets h) (front names old.sets rest more) (LIMIT - old.used) u
           ∙ ap (λ y. leads (y ∷ []) (Rule ∷ []) (goes_on table_of_old [] (front names old.sets rest more) (LIMIT - old.used))) (sym a ∙ ap (token_of new (hidden new now.sets h.hide.0)) (sym i.2))
@@ -152,6 +153,7 @@ module _ (names new : List Text) (macros : Macros) (old now : Machine) (more : L
     hidden new now.sets p.one.hide.0,
     record {
       events = predefined_events (held names old.sets h);
+      one = one_predefined (held names old.sets h);
       goes = still_old [] (Stands (held names old.sets h) ∷ front names old.sets rest more) (ap (waiting names macros old.sets) p.gives.0) (front_old (slot.Token h) rest e)
           ∙ outer_predefined table_of_old law (held names old.sets h) kind text (front names old.sets rest more) (LIMIT - old.used) u (omega (arith, p.used, p.limit))
           ∙ ap (λ y. leads (y ∷ []) (predefined_events (held names old.sets h)) (goes_on table_of_old [] (front names old.sets rest more) (LIMIT - old.used - 2)))

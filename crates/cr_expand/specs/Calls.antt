@@ -1,5 +1,5 @@
 -- Calls of function-like macros among slots (C11 6.10.3p10, p11).
-use Rattle.std.specs.Prelude.{◌≡◌, ℕ, zero, suc, ◌+◌, ◌-◌, ◌==◌, ◌&&◌, nat_le, slice_get, if◌then◌else◌, List, ◌∷◌, ◌++◌, length, codes, Option, Some, None}
+use Rattle.std.specs.Prelude.{Bool, ◌≡◌, ℕ, zero, suc, ◌+◌, ◌-◌, ◌==◌, ◌&&◌, nat_le, slice_get, if◌then◌else◌, List, ◌∷◌, ◌++◌, length, codes, Option, Some, None}
 use Rattle.std.specs.List.{All}
 use Rattle.cr_expand.specs.declared.held.Held.{Held}
 use Rattle.cr_expand.specs.declared.slot.Slot.{Slot}

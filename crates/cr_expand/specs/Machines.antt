@@ -1,5 +1,5 @@
 -- What a machine of macro expansion holds, and what it still gives.
-use Rattle.std.specs.Prelude.{◌≡◌, ℕ, suc, ◌+◌, ◌-◌, ◌<◌, ◌≤◌, true, false, List, [], ◌∷◌, ◌++◌, length, map, reverse, slice_index_or, Option, Some, None, ◌⊎◌}
+use Rattle.std.specs.Prelude.{Bool, ◌≡◌, ℕ, suc, ◌+◌, ◌-◌, ◌<◌, ◌≤◌, true, false, List, [], ◌∷◌, ◌++◌, length, map, reverse, slice_index_or, Option, Some, None, ◌⊎◌}
 use Rattle.std.specs.List.{All}
 use Rattle.cr_base.specs.declared.token.Name.{Name}
 use Rattle.cr_macros.specs.declared.macros.Macro.{Macro}

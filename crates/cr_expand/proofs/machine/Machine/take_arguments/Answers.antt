@@ -1,4 +1,4 @@
-use Rattle.std.proofs.Common.{◌-◌, [], map, arith, refl, sym, ap, ◌∙◌, inr}
+use Rattle.std.proofs.Common.{length, ◌-◌, [], map, arith, refl, sym, ap, ◌∙◌, inr}
 use Rattle.std.specs.Prelude.{option_map}
 use Rattle.cr_expand.proofs.PartedLists.{call_place}
 use Rattle.cr_expand.proofs.Counting.{some_lists, taken, miscounted, commas_are, length_map}
