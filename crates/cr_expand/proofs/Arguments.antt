@@ -1,10 +1,9 @@
 -- Steps of the machine inside a call.
-use Rattle.std.proofs.Common.{◌≡◌, ℕ, zero, suc, ◌+◌, ◌-◌, ◌<◌, ◌≤◌, Bool, true, false, List, [], ◌∷◌, ◌++◌, length, map, drop, refl, sym, ap, subst, ◌∙◌, arith, append-nil, Option, Some, None, ◌⊎◌, inl, inr}
+use Rattle.std.proofs.Common.{◌≡◌, ℕ, suc, ◌+◌, ◌-◌, ◌<◌, Bool, false, List, [], ◌∷◌, ◌++◌, length, refl, sym, ap, subst, ◌∙◌, arith, Some, ◌⊎◌, inl, inr}
 use Rattle.std.specs.Prelude.{slice_index_or}
 use Rattle.std.specs.List.{All}
 use Rattle.std.proofs.lemmas.List.{map-append}
 use Rattle.std.proofs.lemmas.List.Elements.{All-head, All-tail, All-append}
-use Rattle.cr_base.specs.declared.token.Name.{Name}
 use Rattle.cr_base.specs.declared.token.Place.{Place}
 use Rattle.cr_base.specs.declared.token.PpKind.{PpKind}
 use Rattle.cr_macros.specs.declared.macros.Macro.{Macro}
@@ -15,29 +14,29 @@ use Rattle.cr_expand.specs.declared.slot.Slot.{Slot}
 use Rattle.cr_expand.specs.declared.slot.Slot.TheVariants as slot
 use Rattle.cr_expand.specs.declared.machine.Machine.{Machine}
 use Rattle.cr_expand.specs.declared.machine.TheConstants.{LIMIT}
-use Rattle.cr_macros.specs.Tokens.{Text, Token, MacroText, Answer, Gave, Stopped, Work, ◌>>=◌, with_name, both, Cause, Over, ArgCount, OpenCall}
+use Rattle.cr_macros.specs.Tokens.{Text, Token, MacroText, Stopped, ◌>>=◌, with_name, both, Cause, ArgCount, OpenCall}
 use Rattle.cr_macros.specs.Definition.{text_of}
-use Rattle.cr_macros.specs.Substitution.{Args, body_items}
-use Rattle.cr_macros.specs.Expansion.{Table, Use, Predefined, Call, Wrong, use_of, counted_call, arguments, expand, expanded}
+use Rattle.cr_macros.specs.Substitution.{body_items}
+use Rattle.cr_macros.specs.Expansion.{Table, Predefined, Wrong, use_of, counted_call, expand, expanded}
 use Rattle.cr_macros.specs.Laws.{FollowsTheRules}
 use Rattle.cr_macros.specs.MacroTables.{Macros, macro_named, macro_text, table_of}
-use Rattle.cr_expand.specs.HideSets.{Sets, Grows}
+use Rattle.cr_expand.specs.HideSets.{Grows}
 use Rattle.cr_expand.specs.Held.{held, all_held, all_args, hidden, IsKnown, AreKnown, Faults}
 use Rattle.cr_expand.specs.Frames as frames
 use Rattle.cr_expand.specs.Running.{Waiting, Piece, Stands, Ends, current, behind, before, first_lists, behind_lists, goes_on, put_for}
-use Rattle.cr_expand.specs.Slots.{pieces, tokens, ended, ends, begun, IsSlotKnown, AreSlotsKnown}
+use Rattle.cr_expand.specs.Slots.{tokens, ended, ends, begun, IsSlotKnown, AreSlotsKnown}
 use Rattle.cr_expand.specs.Turns.{list_of, IsCallUse}
 use Rattle.cr_expand.specs.Wanted.{is_wanted, is_whole}
-use Rattle.cr_expand.specs.Machines.{means_of, waiting_of, waiting, total, still, IsCallHeld, IsCallKnown, IsMachine, AreMacros, IsEntered, IsMiscounted, next_call}
+use Rattle.cr_expand.specs.Machines.{means_of, waiting_of, waiting, total, still, IsCallKnown, IsMachine, AreMacros, IsEntered, IsMiscounted, next_call}
 use Rattle.cr_expand.proofs.Telling.{no_memory}
 use Rattle.cr_expand.proofs.Kept.{held_kept, all_args_kept}
 use Rattle.cr_expand.proofs.Sets.{grows_same}
 use Rattle.cr_expand.proofs.Counting.{length_map}
 use Rattle.cr_expand.proofs.Going.{behind_before, with_done, IsDropped, goes_call, goes_wrong, predefined_over}
 use Rattle.cr_expand.proofs.Entering.{arguments_same, entered, goes_first, goes_next}
-use Rattle.cr_expand.proofs.Steps.{all_last, waiting_more, front, front_tokens, still_old, still_now, waiting_kept, front_kept, front_old, rest_known, calls_old, calls_held}
+use Rattle.cr_expand.proofs.Steps.{all_last, waiting_more, front, front_tokens, still_old, still_now, front_old, calls_old}
 use Rattle.cr_expand.proofs.Wholes.{all_kept_all, all_kept_text, put_kept_then}
-use Rattle.cr_expand.proofs.Calling.{lists_front, front_begun, texts_arguments, front_calls, all_kept, total_last, raw_known, lists_known, ended_known, begun_known, inside_known, ends_lists}
+use Rattle.cr_expand.proofs.Calling.{lists_front, front_begun, texts_arguments, all_kept, total_last, raw_known, lists_known, ended_known, begun_known, inside_known, ends_lists}
 use Rattle.cr_expand.proofs.KeptMachine.{pieces_kept}
 
 is_dropped_as : (a b : Bool) (ps qs : List Piece) → a ≡ b → IsDropped a ps qs → IsDropped b ps qs

@@ -1,40 +1,32 @@
 -- Steps of the machine that put in, enter a call or end an argument.
-use Rattle.std.proofs.Common.{◌≡◌, ℕ, zero, suc, ◌+◌, ◌-◌, ◌<◌, ◌≤◌, Bool, true, false, List, [], ◌∷◌, ◌++◌, length, map, drop, reverse, refl, sym, ap, subst, ◌∙◌, arith, append_assoc, append-nil, length-append, Option, Some, None, ◌⊎◌, inl, inr}
-use Rattle.std.specs.Prelude.{slice_index_or, slice_get}
+use Rattle.std.proofs.Common.{◌≡◌, ◌+◌, ◌-◌, ◌<◌, Bool, true, false, List, [], ◌∷◌, ◌++◌, length, refl, sym, ap, subst, ◌∙◌, arith, append_assoc, append-nil, inl, inr}
 use Rattle.std.specs.List.{All}
 use Rattle.std.proofs.lemmas.List.{map-append}
 use Rattle.std.proofs.lemmas.List.Elements.{All-head, All-tail, All-weaker, All-nil, All-cons, All-append, All-get_or}
 use Rattle.std.proofs.lemmas.Option.{get_or_from_slice_get, slice_get_within}
-use Rattle.cr_base.specs.declared.token.Name.{Name}
 use Rattle.cr_macros.specs.declared.macros.Macro.{Macro}
 use Rattle.cr_macros.specs.declared.fault.ExpandFault.{ExpandFault}
 use Rattle.cr_expand.specs.declared.held.Held.{Held}
 use Rattle.cr_expand.specs.declared.slot.Slot.{Slot}
 use Rattle.cr_expand.specs.declared.slot.Slot.TheVariants as slot
 use Rattle.cr_expand.specs.declared.machine.Machine.{Machine}
-use Rattle.cr_expand.specs.declared.machine.ExpStep.TheVariants as step
 use Rattle.cr_expand.specs.declared.machine.TheConstants.{LIMIT}
-use Rattle.cr_macros.specs.Tokens.{Text, Token, MacroText, Answer, Gave, Stopped, Work, after, then_do, ◌>>=◌, with_name, both, Cause}
+use Rattle.cr_macros.specs.Tokens.{Text, Token, Work, then_do, ◌>>=◌, with_name}
 use Rattle.cr_macros.specs.Definition.{text_of}
-use Rattle.cr_macros.specs.Substitution.{Args, body_items}
-use Rattle.cr_macros.specs.Expansion.{Table, Use, Object, Call, Wrong, use_of, counted_call, arguments, expand, expanded}
+use Rattle.cr_macros.specs.Expansion.{Table, Object, use_of}
 use Rattle.cr_macros.specs.Laws.{FollowsTheRules}
 use Rattle.cr_macros.specs.MacroTables.{Macros, macro_named, macro_text, table_of}
 use Rattle.cr_expand.specs.HideSets.{Sets, Grows}
-use Rattle.cr_expand.specs.Held.{held, all_held, all_args, hidden, noted, watch_of, IsKnown, AreKnown, Faults, IsCause}
+use Rattle.cr_expand.specs.Held.{held, all_held, all_args, hidden, IsKnown, AreKnown, Faults}
 use Rattle.cr_expand.specs.Frames as frames
-use Rattle.cr_expand.specs.Running.{Waiting, Piece, Stands, Ends, current, behind, before, first_lists, behind_lists, goes_on, leads, put_for}
-use Rattle.cr_expand.specs.Slots.{piece, pieces, tokens, ended, ends, begun, from_end, IsSlotKnown, AreSlotsKnown}
+use Rattle.cr_expand.specs.Running.{Waiting, Stands, Ends, current, behind, before, first_lists, behind_lists, goes_on, leads, put_for}
+use Rattle.cr_expand.specs.Slots.{tokens, ended, ends, begun, IsSlotKnown, AreSlotsKnown}
 use Rattle.cr_expand.specs.Calls.{IsAmong}
-use Rattle.cr_expand.specs.Wanted.{is_wanted}
-use Rattle.cr_expand.specs.Machines.{means_of, waiting_of, waiting, total, still, IsCallHeld, IsCallKnown, IsMachine, AreMacros, IsUse, IsPut, IsEntered, AreArguments, done_call, next_call, put_for_call}
-use Rattle.cr_expand.proofs.Telling.{faults_first, no_memory}
-use Rattle.cr_expand.proofs.Kept.{held_kept, all_args_kept}
-use Rattle.cr_expand.proofs.Sets.{grows_same}
-use Rattle.cr_expand.proofs.Counting.{length_map}
-use Rattle.cr_expand.proofs.Going.{current_before, behind_before, with_done, IsDropped, leads_none, goes_object, goes_call, goes_last, goes_wrong}
-use Rattle.cr_expand.proofs.Entering.{AreArguments as AreTextArguments, arguments_same, entered, goes_first, goes_next}
-use Rattle.cr_expand.proofs.Steps.{all_front, all_last, waiting_more, front, front_tokens, table_of_old, still_old, still_now, waiting_kept, front_kept, front_old, rest_known, calls_old, calls_held}
+use Rattle.cr_expand.specs.Machines.{means_of, waiting_of, waiting, total, still, IsCallHeld, IsMachine, AreMacros, IsUse, IsPut, AreArguments, done_call, put_for_call}
+use Rattle.cr_expand.proofs.Telling.{faults_first}
+use Rattle.cr_expand.proofs.Going.{current_before, behind_before, IsDropped, leads_none, goes_object, goes_last}
+use Rattle.cr_expand.proofs.Entering.{AreArguments as AreTextArguments}
+use Rattle.cr_expand.proofs.Steps.{all_front, front, front_tokens, still_old, still_now, waiting_kept, front_kept, front_old, rest_known, calls_old, calls_held}
 
 -- the lists that stand with their ends
 pub lists_front : (names : List Text) (sets : Sets) (lists : List (List Held)) (rest : List Slot) (more : List Token)
@@ -149,6 +141,7 @@ module _ (names new : List Text) (macros : Macros) (old now : Machine) (more : L
       → IsPut names new old now work rest → waiting new macros now.sets now.frames.items ≡ ws → AreSlotsKnown names old.sets rest → IsUse names new macros old now more []
   puts ws work rest e p w a = record {
     events = p.events;
+    one = p.one;
     goes = e ∙ ap (λ r. then_do r (λ ts. goes_on T ws (before ts (front names old.sets rest more)))) p.gives
         ∙ leads_none p.events (goes_on T ws (before (all_held new now.sets p.list) (front names old.sets rest more)) (LIMIT - now.used))
         ∙ ap (leads [] p.events) (sym (still_now names new macros old now more mach known g k file ws (before (all_held new now.sets p.list) (front names old.sets rest more)) (LIMIT - now.used) w

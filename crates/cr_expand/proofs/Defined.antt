@@ -1,5 +1,5 @@
 -- What a line defines is made of the line's tokens.
-use Rattle.std.proofs.Common.{◌≡◌, ℕ, ◌+◌, ◌≤◌, Bool, true, false, cond, List, [], ◌∷◌, ◌++◌, length, take, drop, refl, sym, ap, subst, ◌∙◌, arith, length-drop, Option, Some, None}
+use Rattle.std.proofs.Common.{◌≡◌, ℕ, ◌+◌, ◌≤◌, Bool, true, false, cond, List, [], ◌∷◌, length, take, drop, refl, sym, subst, ◌∙◌, arith, length-drop, Option, Some, None}
 use Rattle.std.specs.Prelude.{◌==◌, ◌&&◌, not, if◌then◌else◌, codes, fold, position}
 use Rattle.std.specs.List.{All, slice_split, onto_first}
 use Rattle.std.proofs.lemmas.Bool.Decides.{nat_tests}
@@ -9,9 +9,9 @@ use Rattle.cr_base.specs.declared.token.PpTok.{PpTok}
 use Rattle.cr_macros.specs.declared.macros.Macro.{Macro}
 use Rattle.cr_macros.specs.Tokens.{Text, is_ident}
 use Rattle.cr_macros.specs.Definition.{Params, is_mark, is_rest, has_name, with_token, with_piece, after_piece, pieces, params_of, object_like, function_like, with_params, macro_of, is_good, if_good, is_macro_name, definition_of, definition}
-use Rattle.cr_macros.specs.MacroTables.{Macros, macro_named, Sets, Defines}
+use Rattle.cr_macros.specs.MacroTables.{Macros, macro_named, Sets}
 use Rattle.cr_expand.specs.Held.{IsNamed}
-use Rattle.cr_expand.specs.Items.{IsTokenNamed, AreNamed, IsMacroKnown}
+use Rattle.cr_expand.specs.Items.{IsTokenNamed, IsMacroKnown}
 use Rattle.cr_expand.specs.Machines.{IsGoodMacro, AreMacros}
 use Rattle.cr_expand.specs.GoodMacros.{KeepsMacros}
 use Rattle.cr_expand.proofs.Keeping.{macros_later}

@@ -1,13 +1,12 @@
 -- Calls are entered, and their arguments expanded one after another.
 use Rattle.std.proofs.Common.{◌≡◌, ℕ, zero, suc, ◌+◌, Bool, true, false, None, List, [], ◌∷◌, ◌++◌, length, refl, sym, ap, ◌∙◌, arith, append_assoc, append-nil, length-append, ◌⊎◌, inl, inr}
 use Rattle.std.specs.List.{list_any}
-use Rattle.std.specs.Prelude.{slice_index_or}
-use Rattle.cr_macros.specs.Tokens.{Text, Token, MacroText, Answer, Gave, Stopped, Work, after, then_do, ◌>>=◌, give, note, takes}
+use Rattle.cr_macros.specs.Tokens.{Text, Token, MacroText, Gave, Work, after, then_do, ◌>>=◌, give, takes}
 use Rattle.cr_macros.specs.Substitution.{Args, Item, Stays, Spelt, Bare, Full, CommaRest, Paste, body_items, is_full, arg_at, with_space, parts_of, or_placemarker, comma_and, filled, all_filled, all_pasted, placed, dropped}
 use Rattle.cr_macros.specs.Expansion.{Table, expand, expanded, expanded_if, put_in}
 use Rattle.cr_macros.specs.Laws.{FollowsTheRules}
 use Rattle.cr_base.specs.declared.cause.Role.TheVariants.{MacroName}
-use Rattle.cr_expand.specs.Running.{Piece, Stands, Ends, current, behind, before, first_lists, behind_lists, Waiting, put_for, resumes, goes_on}
+use Rattle.cr_expand.specs.Running.{Piece, Ends, current, behind, before, first_lists, behind_lists, Waiting, put_for, resumes, goes_on}
 use Rattle.cr_expand.proofs.Going.{then_then, then_same, after_none, with_done, is_wanted, IsDropped, one_argument}
 
 -- Two lists of arguments are the same at each place, where one that is missing is empty.

@@ -1,7 +1,6 @@
 -- A call that is entered, by its slots.
-use Rattle.std.proofs.Common.{◌≡◌, ℕ, suc, ◌+◌, ◌<◌, ◌≤◌, Bool, false, List, [], ◌∷◌, ◌++◌, length, map, drop, refl, sym, ap, subst, ◌∙◌, arith, Some, Option}
+use Rattle.std.proofs.Common.{◌≡◌, ℕ, suc, ◌+◌, ◌<◌, Bool, false, List, [], ◌∷◌, ◌++◌, length, drop, refl, sym, ap, subst, ◌∙◌, arith, Some}
 use Rattle.std.specs.Prelude.{slice_get, slice_index_or}
-use Rattle.std.specs.List.{All}
 use Rattle.std.proofs.lemmas.List.Elements.{All-get_or}
 use Rattle.std.proofs.lemmas.Option.{get_or_from_slice_get, slice_get_within}
 use Rattle.cr_base.specs.declared.token.Name.{Name}
@@ -17,7 +16,7 @@ use Rattle.cr_expand.specs.HideSets.{Sets}
 use Rattle.cr_expand.specs.Held.{hidden, IsKnown}
 use Rattle.cr_expand.specs.Hiding.{IsHidden}
 use Rattle.cr_expand.specs.Frames.{Call}
-use Rattle.cr_expand.specs.Slots.{tokens, ended, begun, AreSlotsKnown, IsSlotKnown}
+use Rattle.cr_expand.specs.Slots.{tokens, begun, AreSlotsKnown, IsSlotKnown}
 use Rattle.cr_expand.specs.Wanted.{is_wanted, is_whole}
 use Rattle.cr_expand.specs.Machines.{AreTaken, IsEntered}
 use Rattle.cr_expand.proofs.PartedLists.{get_mid}

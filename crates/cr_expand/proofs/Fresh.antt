@@ -1,10 +1,9 @@
 -- A machine that was fed nothing, and what feeding adds.
-use Rattle.std.proofs.Common.{◌≡◌, ℕ, ◌+◌, ◌-◌, ◌<◌, ◌≤◌, Bool, true, false, List, [], ◌∷◌, ◌++◌, length, map, refl, sym, ap, subst, ◌∙◌, arith, append_assoc, append-nil, Option, Some, None}
+use Rattle.std.proofs.Common.{◌≡◌, ◌+◌, ◌-◌, ◌<◌, ◌≤◌, true, List, [], ◌∷◌, ◌++◌, length, map, refl, sym, ap, subst, ◌∙◌, arith, append_assoc, append-nil, Option, Some, None}
 use Rattle.std.specs.List.{All}
 use Rattle.std.proofs.lemmas.List.{map-append}
 use Rattle.std.proofs.lemmas.List.Elements.{All-head, All-tail, All-nil, All-cons, All-append}
 use Rattle.cr_base.specs.NameTable.{IsDistinct}
-use Rattle.cr_base.specs.declared.token.Name.{Name}
 use Rattle.cr_base.specs.declared.token.PpTok.{PpTok}
 use Rattle.cr_macros.specs.declared.fault.ExpandFault.{ExpandFault}
 use Rattle.cr_expand.specs.declared.held.Held.{Held}
@@ -18,13 +17,12 @@ use Rattle.cr_macros.specs.Definition.{text_of}
 use Rattle.cr_macros.specs.Expansion.{expand}
 use Rattle.cr_macros.specs.MacroTables.{Macros, table_of}
 use Rattle.cr_expand.specs.HideSets.{Sets, set_at}
-use Rattle.cr_expand.specs.Held.{held, all_held, IsNamed, IsKnown, AreKnown, AreTables}
+use Rattle.cr_expand.specs.Held.{all_held, IsNamed, IsKnown, AreKnown, AreTables}
 use Rattle.cr_expand.specs.Items.{IsTokenNamed}
-use Rattle.cr_expand.specs.Frames.{Call}
-use Rattle.cr_expand.specs.Running.{Piece, Stands, current, before}
+use Rattle.cr_expand.specs.Running.{Stands, before}
 use Rattle.cr_expand.specs.Slots.{pieces, tokens, ends, IsSlotKnown, AreSlotsKnown}
 use Rattle.cr_expand.specs.Feeding.{all_with, IsPutBack}
-use Rattle.cr_expand.specs.Machines.{still, waiting, total, IsMachine, IsCallKnown}
+use Rattle.cr_expand.specs.Machines.{still, total, IsMachine, IsCallKnown}
 use Rattle.cr_expand.specs.Expanders.{runs_by}
 use Rattle.cr_expand.proofs.Going.{current_before}
 use Rattle.cr_expand.proofs.Steps.{front, front_tokens}

@@ -1,14 +1,14 @@
 -- What waiting calls and pieces still give, use by use.
-use Rattle.std.proofs.Common.{◌≡◌, ℕ, zero, suc, ◌+◌, ◌-◌, ◌<◌, ◌≤◌, Bool, true, false, cond, List, [], ◌∷◌, ◌++◌, length, refl, sym, ap, ◌∙◌, arith, append_assoc, append-nil, Option, Some, None}
-use Rattle.std.specs.Prelude.{nat_lt, if◌then◌else◌}
+use Rattle.std.proofs.Common.{◌≡◌, ℕ, suc, ◌-◌, ◌<◌, ◌≤◌, Bool, true, false, cond, List, [], ◌∷◌, ◌++◌, length, refl, sym, ap, ◌∙◌, arith, append_assoc, append-nil}
+use Rattle.std.specs.Prelude.{nat_lt}
 use Rattle.std.specs.List.{list_any}
 use Rattle.std.proofs.lemmas.Bool.Decides.{nat_tests}
 use Rattle.cr_base.specs.declared.token.PpKind.{PpKind}
 use Rattle.cr_base.specs.declared.cause.Role.TheVariants.{MacroName}
-use Rattle.cr_macros.specs.Tokens.{Text, Token, MacroText, Event, Rule, Cause, Over, Answer, Gave, Stopped, Work, after, then_do, ◌>>=◌, give, fail, note, pay, takes, with_name, both}
+use Rattle.cr_macros.specs.Tokens.{Text, Token, MacroText, Event, Rule, Cause, Over, Answer, Gave, Stopped, Work, after, then_do, ◌>>=◌, give, note, pay, takes, with_name, both}
 use Rattle.cr_macros.specs.Substitution.{Args, Item, body_items, is_full, made}
 use Rattle.cr_macros.specs.Substitution
-use Rattle.cr_macros.specs.Expansion.{Table, Use, Keep, Predefined, Object, Call, Wrong, use_of, by_use, rules, expand, expanded, expanded_if, put_in}
+use Rattle.cr_macros.specs.Expansion.{Table, Use, Keep, Predefined, Object, Call, Wrong, use_of, by_use, expand, expanded, expanded_if, put_in}
 use Rattle.cr_macros.specs.Laws.{FollowsTheRules}
 use Rattle.cr_expand.specs.Running.{Piece, Stands, Ends, current, behind, before, first_lists, behind_lists, Waiting, put_for, resumes, goes_on, leads}
 

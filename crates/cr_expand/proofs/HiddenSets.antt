@@ -1,15 +1,14 @@
 -- Hide sets with their texts.
-use Rattle.std.proofs.Common.{◌≡◌, ℕ, ◌<◌, List, length, map, refl, sym, ap, ◌∙◌}
+use Rattle.std.proofs.Common.{ℕ, ◌<◌, List, length, map, ap, ◌∙◌}
 use Rattle.std.specs.List.{All}
 use Rattle.std.proofs.lemmas.List.Elements.{All-get_or}
-use Rattle.cr_base.specs.NameTable.{IsDistinct}
 use Rattle.cr_base.specs.declared.token.Name.{Name}
 use Rattle.cr_macros.specs.Tokens.{Text, with_name, both}
 use Rattle.cr_macros.specs.Definition.{text_of}
 use Rattle.cr_expand.specs.HideSets.{Sets, set_at, Grows, Puts, with_number, in_both, AreBelow}
 use Rattle.cr_expand.specs.Held.{hidden, IsNamed, AreTables}
 use Rattle.cr_expand.specs.Hiding.{IsHidden}
-use Rattle.cr_expand.proofs.Kept.{tables_later, hidden_kept}
+use Rattle.cr_expand.proofs.Kept.{tables_later}
 use Rattle.cr_expand.proofs.Sets.{grows_same, grows_then}
 use Rattle.cr_expand.proofs.HiddenNames.{with_text, both_text}
 

@@ -1,5 +1,5 @@
 -- The name of a text that was put into the table.
-use Rattle.std.proofs.Common.{◌≡◌, List, [], refl}
+use Rattle.std.proofs.Common.{List, [], refl}
 use Rattle.std.proofs.lemmas.Option.{get_or_from_slice_get, slice_get_within}
 use Rattle.cr_base.specs.NameTable.{Interns, IsDistinct}
 use Rattle.cr_base.specs.declared.token.Name.{Name}

@@ -1,10 +1,8 @@
 -- What a machine holds stays known.
-use Rattle.std.proofs.Common.{◌≡◌, ℕ, suc, ◌+◌, ◌-◌, ◌<◌, ◌≤◌, Bool, false, List, [], ◌∷◌, ◌++◌, length, map, drop, refl, sym, ap, subst, ◌∙◌, arith, length-append, Option, Some, None}
-use Rattle.std.specs.Prelude.{slice_index_or}
+use Rattle.std.proofs.Common.{◌≡◌, ◌<◌, ◌≤◌, Bool, List, [], ◌∷◌, ◌++◌, length, drop, refl, sym, ap, subst, ◌∙◌, arith, length-append, Option, Some, None}
 use Rattle.std.specs.List.{All}
-use Rattle.std.proofs.lemmas.List.Elements.{All-head, All-tail, All-weaker, All-nil, All-cons, All-append}
+use Rattle.std.proofs.lemmas.List.Elements.{All-tail, All-weaker, All-nil, All-cons, All-append}
 use Rattle.cr_base.specs.declared.token.Name.{Name}
-use Rattle.cr_base.specs.declared.token.PpTok.{PpTok}
 use Rattle.cr_macros.specs.declared.macros.Macro.{Macro}
 use Rattle.cr_expand.specs.declared.held.Held.{Held}
 use Rattle.cr_expand.specs.declared.slot.Slot.{Slot}
@@ -17,12 +15,11 @@ use Rattle.cr_macros.specs.Tokens.{Text}
 use Rattle.cr_macros.specs.MacroTables.{Macros, macro_named, macro_text}
 use Rattle.cr_expand.specs.HideSets.{Sets, Grows}
 use Rattle.cr_expand.specs.Held.{IsNamed, IsKnown, AreKnown, AreTables}
-use Rattle.cr_expand.specs.Items.{IsMacroKnown, IsTokenNamed, AreNamed}
+use Rattle.cr_expand.specs.Items.{IsTokenNamed, AreNamed}
 use Rattle.cr_expand.specs.Frames.{Call}
 use Rattle.cr_expand.specs.Slots.{tokens, ended, ends, begun, IsSlotKnown, AreSlotsKnown}
-use Rattle.cr_expand.specs.Turns.{IsCallUse}
 use Rattle.cr_expand.specs.Wanted.{is_wanted}
-use Rattle.cr_expand.specs.Machines.{means_of, total, IsCallHeld, IsCallKnown, IsMachine, AreMacros, IsGiven, IsSameRun, IsPut, IsEntered, next_call}
+use Rattle.cr_expand.specs.Machines.{means_of, total, IsCallKnown, IsMachine, AreMacros, IsGiven, IsSameRun, IsEntered, next_call}
 use Rattle.cr_expand.proofs.Kept.{named_later, known_later, all_known_later, args_known_later, longer}
 use Rattle.cr_expand.proofs.KeptMachine.{means_kept}
 use Rattle.cr_expand.proofs.Looked.{found_known}

@@ -1,16 +1,14 @@
 -- What a machine still gives stays as it was when the tables grow.
-use Rattle.std.proofs.Common.{◌≡◌, ℕ, ◌<◌, Bool, true, false, List, [], ◌∷◌, ◌++◌, length, map, reverse, refl, sym, ap, ◌∙◌, arith, Option, Some, None}
+use Rattle.std.proofs.Common.{◌≡◌, Bool, true, false, List, [], ◌∷◌, map, refl, sym, ap, ◌∙◌, arith, Option, Some, None}
 use Rattle.std.specs.Prelude.{option_map, bytes_eq, ◌==◌, if◌then◌else◌}
 use Rattle.std.proofs.lemmas.Bool.Decides.{nat_tests}
 use Rattle.std.specs.List.{All}
 use Rattle.std.specs.Map.{lookup}
 use Rattle.std.proofs.Math.Path.{fun_ext}
-use Rattle.std.proofs.lemmas.List.{map-append, reverse-append}
-use Rattle.std.proofs.lemmas.List.Elements.{All-head, All-tail, All-weaker}
+use Rattle.std.proofs.lemmas.List.Elements.{All-head, All-tail}
 use Rattle.cr_base.specs.declared.token.Name.{Name}
 use Rattle.cr_base.specs.declared.token.PpTok.{PpTok}
 use Rattle.cr_macros.specs.declared.macros.Macro.{Macro}
-use Rattle.cr_expand.specs.declared.held.Held.{Held}
 use Rattle.cr_expand.specs.declared.slot.Slot.{Slot}
 use Rattle.cr_expand.specs.declared.slot.Slot.TheVariants as slot
 use Rattle.cr_macros.specs.Tokens.{Text, Token, MacroText, tokens_of, token_of}
@@ -18,14 +16,14 @@ use Rattle.cr_macros.specs.Definition.{text_of}
 use Rattle.cr_macros.specs.Expansion.{Table}
 use Rattle.cr_macros.specs.MacroTables.{Macros, macro_named, macro_text, table_of}
 use Rattle.cr_expand.specs.HideSets.{Sets, Grows}
-use Rattle.cr_expand.specs.Held.{held, all_held, all_args, hidden, IsNamed, IsKnown, AreKnown}
+use Rattle.cr_expand.specs.Held.{IsNamed}
 use Rattle.cr_expand.specs.Items.{IsMacroKnown, IsTokenNamed, AreNamed}
 use Rattle.cr_expand.specs.Heading.{IsEntryKnown, AreMacrosKnown}
 use Rattle.cr_expand.specs.Frames.{Call}
-use Rattle.cr_expand.specs.Running.{Waiting, Piece, Stands}
+use Rattle.cr_expand.specs.Running.{Waiting, Stands}
 use Rattle.cr_expand.specs.Slots.{piece, pieces, IsSlotKnown, AreSlotsKnown}
-use Rattle.cr_expand.specs.Machines.{means_of, waiting_of, waiting, IsCallHeld, AreMacros}
-use Rattle.cr_expand.proofs.Kept.{name_kept, names_kept, token_kept, held_kept, all_held_kept, all_args_kept, hidden_kept, known_later, all_known_later, args_known_later, named_later}
+use Rattle.cr_expand.specs.Machines.{means_of, waiting_of, IsCallHeld, AreMacros}
+use Rattle.cr_expand.proofs.Kept.{name_kept, names_kept, token_kept, held_kept, all_held_kept, all_args_kept, hidden_kept}
 use Rattle.cr_expand.proofs.Looked.{found_known, keys_known}
 
 module _ (names new : List Text) (g : Grows names new) where

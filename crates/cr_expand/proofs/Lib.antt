@@ -22,6 +22,7 @@ pub mod PartedLists
 pub mod Turning
 pub mod FullMarks
 pub mod Interned
+pub mod Quiet
 pub mod Puttings
 pub mod HiddenSets
 pub mod Looked

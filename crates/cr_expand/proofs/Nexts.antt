@@ -1,5 +1,5 @@
 -- What comes next, by the head.
-use Rattle.std.proofs.Common.{◌≡◌, ℕ, Bool, List, [], ◌∷◌, refl, sym, ap, subst, ◌∙◌, Some, None, Bor, ◌<◌, ◌^◌}
+use Rattle.std.proofs.Common.{◌≡◌, ℕ, List, [], ◌∷◌, sym, ap, subst, ◌∙◌, Some, Bor, ◌<◌, ◌^◌}
 use Rattle.cr_base.specs.declared.token.Place.{Place}
 use Rattle.cr_macros.specs.declared.macros.Macro.{Macro}
 use Rattle.cr_macros.specs.declared.words.Predefined.{Predefined as PredefinedMacro}
@@ -12,7 +12,7 @@ use Rattle.cr_macros.specs.Expansion.{Use, Keep, Predefined, Object, Wrong, pred
 use Rattle.cr_macros.specs.MacroTables.{Macros, macro_named, macro_text, table_of}
 use Rattle.cr_expand.specs.HideSets.{Sets}
 use Rattle.cr_expand.specs.Held.{held}
-use Rattle.cr_expand.specs.Turns.{IsUsed, IsCallUse, IsNext, IsTurnOf}
+use Rattle.cr_expand.specs.Turns.{IsUsed, IsCallUse, IsNext}
 
 module _ (names : List Text) (sets : Sets) (macros : Macros) (file : Text) (more : List Token) where
   abbrev use_at : Held → List Token → Use

@@ -1,5 +1,5 @@
 -- A call's tokens parted by commas, one after another.
-use Rattle.std.proofs.Common.{◌≡◌, ℕ, zero, suc, ◌+◌, ◌-◌, ◌<◌, ◌≤◌, Bool, true, false, cond, List, [], ◌∷◌, ◌++◌, length, map, set, refl, sym, ap, subst, ◌∙◌, arith, append_assoc, append-nil, length-append, Option, Some, None}
+use Rattle.std.proofs.Common.{map, ◌≡◌, ℕ, suc, ◌+◌, ◌-◌, ◌<◌, ◌≤◌, Bool, true, false, cond, List, [], ◌∷◌, ◌++◌, length, set, refl, sym, ap, subst, ◌∙◌, arith, append_assoc, append-nil, length-append, Option, Some, None}
 use Rattle.std.specs.Prelude.{codes, ◌==◌, ◌&&◌, nat_le, if◌then◌else◌, slice_get}
 use Rattle.std.proofs.lemmas.List.{map-append}
 use Rattle.std.specs.List.{All}

@@ -1,7 +1,6 @@
 -- What is put in for a name, where the work allows it.
-use Rattle.std.proofs.Common.{◌≡◌, ℕ, suc, ◌+◌, ◌-◌, ◌<◌, ◌≤◌, Bool, true, false, cond, List, [], ◌∷◌, ◌++◌, length, map, refl, sym, ap, ◌∙◌, arith, append-nil, inl}
-use Rattle.std.specs.Prelude.{nat_lt, vec_len, Vec}
-use Rattle.std.proofs.Common.{Global}
+use Rattle.std.proofs.Common.{◌≡◌, ℕ, suc, ◌+◌, ◌-◌, ◌<◌, ◌≤◌, true, false, cond, List, [], ◌∷◌, ◌++◌, length, refl, sym, ap, ◌∙◌, arith, append-nil, inl}
+use Rattle.std.specs.Prelude.{nat_lt}
 use Rattle.std.proofs.lemmas.Bool.Decides.{nat_tests}
 use Rattle.cr_macros.specs.declared.macros.Seen.{Seen}
 use Rattle.cr_macros.specs.declared.fault.ExpandFault.TheVariants as fault
@@ -14,7 +13,8 @@ use Rattle.cr_macros.specs.Expansion.{put_in}
 use Rattle.cr_expand.specs.HideSets.{Sets, Grows}
 use Rattle.cr_expand.specs.Held.{Watch, noted, Tells, Faults, watch_of, held, all_held, hidden, IsKnown, AreKnown, AreTables}
 use Rattle.cr_expand.specs.Slots.{tokens}
-use Rattle.cr_expand.specs.Machines.{IsPut}
+use Rattle.cr_expand.specs.Machines.{IsPut, uses}
+use Rattle.cr_expand.proofs.Quiet.{QuietAnswer, uses_append}
 use Rattle.cr_expand.proofs.Noted.{noted_append}
 use Rattle.cr_expand.proofs.Sets.{grows_then, grows_same}
 use Rattle.cr_expand.proofs.Kept.{held_kept}
@@ -31,14 +31,15 @@ module _ (w : Watch) (s0 s1 : List Seen) (value : List Token) (left : ℕ) where
   with_rule : (events : List Event) → s1 ≡ s0 ++ noted w events → s1 ≡ s0 ++ noted w (events ++ Rule ∷ [])
   with_rule events e = e ∙ ap (λ l. s0 ++ l) (sym (noted_append w events (Rule ∷ []) ∙ append-nil (noted w events)))
 
-  gives : (r : Answer (List Token)) → Tells w s0 s1 r value left → 1 + length value ≤ left
-      → (events : List Event) × (then_do r (λ ts. put_in ts) ≡ Gave value (left - (1 + length value)) events) × (s1 ≡ s0 ++ noted w events)
-  gives (Gave a l events) h k = (
+  gives : (r : Answer (List Token)) → Tells w s0 s1 r value left → QuietAnswer r → 1 + length value ≤ left
+      → (events : List Event) × (then_do r (λ ts. put_in ts) ≡ Gave value (left - (1 + length value)) events) × (s1 ≡ s0 ++ noted w events) × (uses events ≡ 1)
+  gives (Gave a l events) h q k = (
     events ++ Rule ∷ [],
     ap (λ x. after events (put_in x l)) h.0 ∙ ap (λ x. after events (put_in value x)) h.1 ∙ ap (after events) (paid (1 + length value) k),
     with_rule events h.2,
+    let u = uses_append events (Rule ∷ []) in omega (arith, u, q),
   )
-  gives (Stopped cause stopped) h k = absurd h
+  gives (Stopped cause stopped) h q k = absurd h
 
   pub faults_over : (r : Answer (List Token)) → Tells w s0 s1 r value left → left < 1 + length value → Faults (then_do r (λ ts. put_in ts)) fault.LimitMacros
   faults_over (Gave a l events) h k =
@@ -51,15 +52,16 @@ length_held names sets [] = refl
 length_held names sets (h ∷ hs) = ap suc (length_held names sets hs)
 
 pub is_put : (names new : List Text) (old now : Machine) (m : Work (List Token)) (rest : List Slot) (list : List Held)
-    → Tells (watch_of names old.notes) old.notes.seen.items now.notes.seen.items (m (LIMIT - old.used)) (all_held new now.sets list) (LIMIT - old.used)
+    → Tells (watch_of names old.notes) old.notes.seen.items now.notes.seen.items (m (LIMIT - old.used)) (all_held new now.sets list) (LIMIT - old.used) → QuietAnswer (m (LIMIT - old.used))
     → now.used ≡ old.used + (1 + length list) → now.used ≤ LIMIT → now.slots.items ≡ tokens list ++ rest → AreKnown new now.sets list → AreTables new now.sets → Grows names new → Grows old.sets now.sets
     → IsPut names new old now (m >>= λ ts. put_in ts) rest
-is_put names new old now m rest list t u l s k a g h =
+is_put names new old now m rest list t q u l s k a g h =
     let n = length_held new now.sets list in
-    let p = gives (watch_of names old.notes) old.notes.seen.items now.notes.seen.items (all_held new now.sets list) (LIMIT - old.used) (m (LIMIT - old.used)) t (omega (arith, n)) in
+    let p = gives (watch_of names old.notes) old.notes.seen.items now.notes.seen.items (all_held new now.sets list) (LIMIT - old.used) (m (LIMIT - old.used)) t q (omega (arith, n)) in
     record {
       list = list;
       events = p.0;
+      one = p.3;
       gives = p.1 ∙ ap (λ x. Gave (all_held new now.sets list) x p.0) (let e : LIMIT - old.used - (1 + length (all_held new now.sets list)) ≡ LIMIT - now.used = omega (arith, n) in e);
       seen = p.2;
       slots = s;
@@ -76,6 +78,7 @@ pub put_again : (names new : List Text) (old mid now : Machine) (work work2 : Wo
 put_again names new old mid now work work2 rest rest2 u n g e f p = record {
   list = p.list;
   events = p.events;
+  one = p.one;
   gives = ap (λ f. f (LIMIT - old.used)) (sym e) ∙ ap (λ x. work (LIMIT - x)) (sym u) ∙ p.gives;
   seen = p.seen ∙ ap (λ x. x.seen.items ++ noted (watch_of names x) p.events) n;
   slots = p.slots ∙ ap (λ l. tokens p.list ++ l) f;

@@ -1,7 +1,6 @@
 -- However a list is fed, a machine gives its expansion.
-use Rattle.std.proofs.Common.{◌≡◌, ℕ, ◌-◌, Bool, true, false, List, [], ◌∷◌, ◌++◌, map, refl, sym, ap, subst, ◌∙◌, append_assoc, append-nil}
+use Rattle.std.proofs.Common.{◌≡◌, ◌-◌, true, false, List, [], ◌∷◌, ◌++◌, map, refl, sym, ap, subst, ◌∙◌, append_assoc, append-nil}
 use Rattle.std.proofs.lemmas.List.{map-append}
-use Rattle.cr_base.specs.declared.token.Name.{Name}
 use Rattle.cr_base.specs.declared.token.PpTok.{PpTok}
 use Rattle.cr_expand.specs.declared.expander.Expander.{Expander}
 use Rattle.cr_expand.specs.declared.machine.ExpStep.TheVariants as step
@@ -14,7 +13,7 @@ use Rattle.cr_expand.specs.HideSets.{Grows}
 use Rattle.cr_expand.specs.Held.{IsNamed, watch_of, noted}
 use Rattle.cr_expand.specs.Running.{leads}
 use Rattle.cr_expand.specs.Machines.{IsUse}
-use Rattle.cr_expand.specs.Expanders.{left_over, IsFresh, IsFed, Steps, plain, Run, Begins, Fed, Gives, Goes, Finishes, GivesTheExpansion}
+use Rattle.cr_expand.specs.Expanders.{left_over, IsFed, Steps, plain, Run, Begins, Fed, Gives, Goes, Finishes, GivesTheExpansion}
 use Rattle.cr_expand.proofs.Kept.{watch_kept}
 use Rattle.cr_expand.proofs.Noted.{noted_append}
 use Rattle.cr_expand.proofs.Sets.{grows_same, grows_then}

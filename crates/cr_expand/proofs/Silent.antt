@@ -1,16 +1,12 @@
 -- Turns that make no step.
-use Rattle.std.proofs.Common.{◌≡◌, ℕ, ◌-◌, ◌<◌, Bool, true, false, List, [], ◌∷◌, ◌++◌, length, refl, sym, ap, subst, ◌∙◌, arith, ◌⊎◌, inl, inr, Option, Some, None}
+use Rattle.std.proofs.Common.{◌≡◌, ◌-◌, ◌<◌, true, List, [], ◌∷◌, ◌++◌, refl, sym, ap, subst, ◌∙◌, arith, ◌⊎◌, inl, inr, None}
 use Rattle.cr_macros.specs.declared.fault.ExpandFault.{ExpandFault}
-use Rattle.cr_expand.specs.declared.slot.Slot.{Slot}
-use Rattle.cr_expand.specs.declared.slot.Slot.TheVariants as slot
 use Rattle.cr_expand.specs.declared.machine.Machine.{Machine}
 use Rattle.cr_expand.specs.declared.machine.ExpStep.{ExpStep}
 use Rattle.cr_expand.specs.declared.machine.ExpStep.TheVariants as step
 use Rattle.cr_expand.specs.declared.machine.TheConstants.{LIMIT}
-use Rattle.cr_macros.specs.Tokens.{Text, Token, token_of, Answer, Gave}
+use Rattle.cr_macros.specs.Tokens.{Text, Token, token_of, Gave}
 use Rattle.cr_macros.specs.MacroTables.{Macros}
-use Rattle.cr_macros.specs.Laws.{FollowsTheRules}
-use Rattle.cr_expand.specs.HideSets.{Grows}
 use Rattle.cr_expand.specs.Held.{Faults, noted, watch_of}
 use Rattle.cr_expand.specs.Slots.{ends}
 use Rattle.cr_expand.specs.Frames.{Call}
@@ -48,6 +44,7 @@ use_after : (names new : List Text) (macros : Macros) (first mid now : Machine) 
     → IsUse names new macros mid now more out → IsUse names new macros first now more out
 use_after names new macros first mid now more out e s r u = record {
   events = u.events;
+  one = u.one;
   goes = e ∙ u.goes;
   seen = u.seen ∙ ap (λ l. l ++ noted (watch_of names mid.notes) u.events) s ∙ ap (λ w. first.notes.seen.items ++ noted w u.events) (same_events names first mid r.0 r.1);
 }

@@ -1,11 +1,10 @@
 -- Steps of the machine, by the use of the head.
-use Rattle.std.proofs.Common.{◌≡◌, ℕ, suc, ◌+◌, ◌-◌, ◌<◌, ◌≤◌, Bool, List, [], ◌∷◌, ◌++◌, length, map, drop, reverse, refl, sym, ap, subst, ◌∙◌, arith, append_assoc, append-nil, Option, Some, None}
+use Rattle.std.proofs.Common.{◌≡◌, ℕ, ◌-◌, List, [], ◌∷◌, ◌++◌, map, drop, reverse, refl, sym, ap, subst, ◌∙◌, arith, append-nil}
 use Rattle.std.specs.List.{All}
 use Rattle.std.proofs.lemmas.List.{map-append, reverse-append}
-use Rattle.std.proofs.lemmas.List.Elements.{All-head, All-tail, All-weaker, All-nil, All-cons, All-append}
+use Rattle.std.proofs.lemmas.List.Elements.{All-head, All-tail, All-weaker, All-nil, All-cons}
 use Rattle.cr_base.specs.declared.token.PpKind.{PpKind}
 use Rattle.cr_base.specs.declared.cause.Role.TheVariants.{MacroName}
-use Rattle.cr_macros.specs.declared.macros.Macro.{Macro}
 use Rattle.cr_macros.specs.declared.macros.Seen.{Seen}
 use Rattle.cr_expand.specs.declared.held.Held.{Held}
 use Rattle.cr_expand.specs.declared.slot.Slot.{Slot}
@@ -14,21 +13,22 @@ use Rattle.cr_expand.specs.declared.machine.Machine.{Machine}
 use Rattle.cr_expand.specs.declared.machine.ExpStep.{ExpStep}
 use Rattle.cr_expand.specs.declared.machine.ExpStep.TheVariants as step
 use Rattle.cr_expand.specs.declared.machine.TheConstants.{LIMIT}
-use Rattle.cr_macros.specs.Tokens.{Text, Token, token_of, Event, Rule, takes, with_name}
+use Rattle.cr_macros.specs.Tokens.{Text, Token, token_of, Event, Rule, takes}
 use Rattle.cr_macros.specs.Substitution.{made}
 use Rattle.cr_macros.specs.Definition.{text_of}
-use Rattle.cr_macros.specs.Expansion.{Table, Use, Keep, Predefined, Object, use_of}
+use Rattle.cr_macros.specs.Expansion.{Table, Keep, Predefined, use_of}
 use Rattle.cr_macros.specs.Laws.{FollowsTheRules}
-use Rattle.cr_macros.specs.MacroTables.{Macros, macro_text, table_of}
+use Rattle.cr_macros.specs.MacroTables.{Macros, table_of}
 use Rattle.cr_expand.specs.HideSets.{Sets, Grows}
-use Rattle.cr_expand.specs.Held.{held, all_held, hidden, noted, watch_of, IsKnown, AreKnown}
+use Rattle.cr_expand.specs.Held.{held, all_held, hidden, noted, watch_of}
 use Rattle.cr_expand.specs.Frames.{Call}
-use Rattle.cr_expand.specs.Running.{Waiting, Piece, Stands, Ends, current, before, goes_on, leads, put_for}
+use Rattle.cr_expand.specs.Running.{Waiting, Piece, Stands, current, before, goes_on, leads}
 use Rattle.cr_expand.specs.Slots.{piece, pieces, tokens, IsSlotKnown, AreSlotsKnown}
-use Rattle.cr_expand.specs.Machines.{waiting_of, waiting, still, IsCallHeld, IsCallKnown, IsMachine, AreMacros, IsGiven, IsSameElsewhere, IsUse, IsStep, IsPredefinedUse, IsPut}
+use Rattle.cr_expand.specs.Machines.{waiting_of, waiting, still, IsCallHeld, IsCallKnown, IsMachine, AreMacros, IsGiven, IsStep, IsPredefinedUse, uses}
 use Rattle.cr_expand.proofs.Noted.{noted_append}
 use Rattle.cr_expand.proofs.Sets.{grows_same}
-use Rattle.cr_expand.proofs.Going.{with_out, predefined_events, outer_keeps, inner_keeps, outer_predefined, inner_predefined, goes_object, leads_none, then_same}
+use Rattle.cr_expand.proofs.Quiet.{uses_append, takes_none}
+use Rattle.cr_expand.proofs.Going.{with_out, predefined_events, outer_keeps, inner_keeps, outer_predefined, inner_predefined}
 use Rattle.cr_expand.proofs.KeptMachine.{table_kept, all_waiting_kept, waiting_of_kept, pieces_kept}
 
 pub all_front : {A : Type 0} (P : A → Type 0) (xs : List A) (x : A) → All P (xs ++ x ∷ []) → All P xs
@@ -65,6 +65,9 @@ same_sets old new e = subst (λ s. Grows old s) (sym e) (grows_same old)
 
 with_rule : (names : List Text) (m : Machine) (s0 s1 : List Seen) (events : List Event) → s1 ≡ s0 ++ noted (watch_of names m.notes) events → s1 ≡ s0 ++ noted (watch_of names m.notes) (events ++ Rule ∷ [])
 with_rule names m s0 s1 events e = e ∙ ap (λ l. s0 ++ l) (sym (noted_append (watch_of names m.notes) events (Rule ∷ []) ∙ append-nil (noted (watch_of names m.notes) events)))
+
+one_predefined : (t : Token) → uses (predefined_events t) ≡ 1
+one_predefined t = let a = uses_append (takes MacroName t) (Rule ∷ []) in let b = takes_none MacroName t in omega (arith, a, b)
 
 module _ (names new : List Text) (macros : Macros) (old now : Machine) (more : List Token) (mach : IsMachine names macros old) (known : AreMacros names macros) (g : Grows names new) (k : Grows old.sets now.sets) (file : now.file ≡ old.file) where
   abbrev pub table_of_old : Table
@@ -122,6 +125,7 @@ module _ (names new : List Text) (macros : Macros) (old now : Machine) (more : L
     hidden new now.sets h.hide.0,
     record {
       events = Rule ∷ [];
+      one = refl;
       goes = still_old [] (Stands (held names old.sets h) ∷ front names old.sets rest more) (ap (waiting names macros old.sets) i.0) (front_old (slot.Token h) rest e)
           ∙ outer_keeps table_of_old law (held names old.sets h) (front names old.sets rest more) (LIMIT - old.used) u
           ∙ ap (λ y. leads (y ∷ []) (Rule ∷ []) (goes_on table_of_old [] (front names old.sets rest more) (LIMIT - old.used))) (sym a ∙ ap (token_of new (hidden new now.sets h.hide.0)) (sym i.2))
@@ -131,6 +135,7 @@ module _ (names new : List Text) (macros : Macros) (old now : Machine) (more : L
   )
   keeps law h rest step.More x e u d l n a (cs, c, f, f2) = record {
     events = Rule ∷ [];
+    one = refl;
     goes = still_old (waiting_of names macros old.sets c ∷ waiting names macros old.sets cs) (Stands (held names old.sets h) ∷ front names old.sets rest more) (calls_old cs c f) (front_old (slot.Token h) rest e)
         ∙ inner_keeps table_of_old law (waiting names macros old.sets cs) (waiting_of names macros old.sets c) (held names old.sets h) (front names old.sets rest more) (LIMIT - old.used) u
         ∙ ap (leads [] (Rule ∷ [])) (sym (still_now (with_out (waiting_of names macros old.sets c) (held names old.sets h) ∷ waiting names macros old.sets cs) (front names old.sets rest more) (LIMIT - old.used)
@@ -148,6 +153,7 @@ module _ (names new : List Text) (macros : Macros) (old now : Machine) (more : L
     hidden new now.sets p.one.hide.0,
     record {
       events = predefined_events (held names old.sets h);
+      one = one_predefined (held names old.sets h);
       goes = still_old [] (Stands (held names old.sets h) ∷ front names old.sets rest more) (ap (waiting names macros old.sets) p.gives.0) (front_old (slot.Token h) rest e)
           ∙ outer_predefined table_of_old law (held names old.sets h) kind text (front names old.sets rest more) (LIMIT - old.used) u (omega (arith, p.used, p.limit))
           ∙ ap (λ y. leads (y ∷ []) (predefined_events (held names old.sets h)) (goes_on table_of_old [] (front names old.sets rest more) (LIMIT - old.used - 2)))
@@ -161,6 +167,7 @@ module _ (names new : List Text) (macros : Macros) (old now : Machine) (more : L
     by : IsGiven old.frames.items p.one now.frames.items step.More → IsStep names new macros old now more step.More
     by (cs, c, f, f2) = record {
       events = predefined_events (held names old.sets h);
+      one = one_predefined (held names old.sets h);
       goes = still_old (waiting_of names macros old.sets c ∷ waiting names macros old.sets cs) (Stands (held names old.sets h) ∷ front names old.sets rest more) (calls_old cs c f) (front_old (slot.Token h) rest e)
           ∙ inner_predefined table_of_old law (waiting names macros old.sets cs) (waiting_of names macros old.sets c) (held names old.sets h) kind text (front names old.sets rest more) (LIMIT - old.used) u (omega (arith, p.used, p.limit))
           ∙ ap (leads [] (predefined_events (held names old.sets h)))

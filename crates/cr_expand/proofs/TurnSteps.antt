@@ -1,7 +1,6 @@
 -- A turn of the machine, case by case.
-use Rattle.std.proofs.Common.{◌≡◌, ℕ, suc, ◌+◌, ◌-◌, ◌<◌, ◌≤◌, Bool, true, false, List, [], ◌∷◌, ◌++◌, length, drop, refl, sym, ap, subst, ◌∙◌, arith, length-append, Option, Some, None, inl, inr}
+use Rattle.std.proofs.Common.{◌≡◌, ℕ, suc, ◌+◌, ◌<◌, ◌≤◌, Bool, true, false, List, [], ◌∷◌, ◌++◌, length, refl, sym, ap, subst, arith, length-append, Option, Some, None, inl, inr}
 use Rattle.std.specs.Prelude.{slice_index_or}
-use Rattle.std.specs.List.{All}
 use Rattle.std.proofs.lemmas.List.Elements.{All-head}
 use Rattle.cr_macros.specs.declared.macros.Macro.{Macro}
 use Rattle.cr_macros.specs.declared.fault.ExpandFault.{ExpandFault}
@@ -18,8 +17,7 @@ use Rattle.cr_macros.specs.Expansion.{Use, use_of}
 use Rattle.cr_macros.specs.Laws.{FollowsTheRules}
 use Rattle.cr_macros.specs.MacroTables.{Macros, macro_named, macro_text, table_of}
 use Rattle.cr_expand.specs.HideSets.{Sets, Grows}
-use Rattle.cr_expand.specs.Held.{held, AreTables, IsKnown, AreKnown, Faults}
-use Rattle.cr_expand.specs.Frames.{Call}
+use Rattle.cr_expand.specs.Held.{held, AreTables, IsKnown, Faults}
 use Rattle.cr_expand.specs.Slots.{tokens, ended, begun, from_end, IsSlotKnown, AreSlotsKnown}
 use Rattle.cr_expand.specs.Turns.{IsCallUse}
 use Rattle.cr_expand.specs.Wanted.{is_wanted}

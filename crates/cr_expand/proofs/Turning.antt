@@ -1,7 +1,6 @@
 -- What comes next, case by case.
-use Rattle.std.proofs.Common.{◌≡◌, ℕ, zero, suc, ◌+◌, ◌<◌, ◌≤◌, Bool, true, false, cond, List, [], ◌∷◌, ◌++◌, length, map, get_or, refl, sym, ap, subst, ◌∙◌, arith, append_assoc, append-nil, length-append, Option, Some, None}
-use Rattle.std.specs.Prelude.{codes, if◌then◌else◌}
-use Rattle.std.proofs.lemmas.List.{map-append}
+use Rattle.std.proofs.Common.{◌≡◌, ℕ, ◌<◌, ◌≤◌, Bool, true, false, cond, List, [], ◌∷◌, ◌++◌, length, map, get_or, refl, sym, ap, subst, ◌∙◌, arith, append-nil, Some}
+use Rattle.std.specs.Prelude.{codes}
 use Rattle.cr_base.specs.declared.token.Name.{Name}
 use Rattle.cr_macros.specs.declared.macros.Macro.{Macro}
 use Rattle.cr_expand.specs.declared.held.Held.{Held}
@@ -10,14 +9,14 @@ use Rattle.cr_expand.specs.declared.slot.Slot.TheVariants as slot
 use Rattle.cr_expand.specs.declared.turn.Turn.{Turn}
 use Rattle.cr_expand.specs.declared.turn.Turn.TheVariants as turn
 use Rattle.cr_expand.specs.declared.closing.Close.TheVariants as close
-use Rattle.cr_macros.specs.Tokens.{Text, Token, MacroText, is_mark, OpenCall}
-use Rattle.cr_macros.specs.Expansion.{Use, Keep, Predefined, Object, Wrong, predefined_token, arguments, counted_call, closed_call, call_of, use_of, to_close}
+use Rattle.cr_macros.specs.Tokens.{Text, Token, is_mark, OpenCall}
+use Rattle.cr_macros.specs.Expansion.{Use, Keep, Wrong, closed_call, call_of, use_of, to_close}
 use Rattle.cr_macros.specs.Definition.{text_of}
-use Rattle.cr_macros.specs.MacroTables.{Macros, macro_named, macro_text, table_of}
+use Rattle.cr_macros.specs.MacroTables.{Macros, macro_text, table_of}
 use Rattle.cr_expand.specs.HideSets.{Sets}
 use Rattle.cr_expand.specs.Held.{held, all_held}
-use Rattle.cr_expand.specs.Running.{Piece, Stands, Ends, current, before, is_open, wants_more}
-use Rattle.cr_expand.specs.Slots.{piece, pieces, tokens}
+use Rattle.cr_expand.specs.Running.{current, before, is_open, wants_more}
+use Rattle.cr_expand.specs.Slots.{tokens}
 use Rattle.cr_expand.specs.Calls.{IsClosed}
 use Rattle.cr_expand.specs.Slots.{ends}
 use Rattle.cr_expand.specs.Turns.{list_of, IsUsed, IsCallUse, IsTurn, IsTurnOf, IsNext, IsWanting}

@@ -1,5 +1,5 @@
 -- Where a token is wanted, and where the end is.
-use Rattle.std.proofs.Common.{◌≡◌, ℕ, suc, ◌+◌, ◌-◌, ◌<◌, Bool, true, false, List, [], ◌∷◌, ◌++◌, length, map, refl, sym, ap, subst, ◌∙◌, arith, append-nil, Option, Some, None}
+use Rattle.std.proofs.Common.{◌≡◌, ◌+◌, ◌-◌, ◌<◌, Bool, true, false, List, [], ◌∷◌, ◌++◌, length, refl, sym, ap, subst, ◌∙◌, arith, append-nil, Option, Some, None}
 use Rattle.std.specs.Prelude.{slice_index_or}
 use Rattle.cr_base.specs.declared.token.Name.{Name}
 use Rattle.cr_macros.specs.declared.macros.Macro.{Macro}
@@ -9,7 +9,6 @@ use Rattle.cr_expand.specs.declared.slot.Slot.TheVariants as slot
 use Rattle.cr_expand.specs.declared.turn.Turn.TheVariants as turn
 use Rattle.cr_expand.specs.declared.machine.Machine.{Machine}
 use Rattle.cr_expand.specs.declared.machine.ExpStep.{ExpStep}
-use Rattle.cr_expand.specs.declared.machine.ExpStep.TheVariants as step
 use Rattle.cr_expand.specs.declared.machine.TheConstants.{LIMIT}
 use Rattle.cr_macros.specs.Tokens.{Text, Token, Gave}
 use Rattle.cr_macros.specs.Definition.{text_of}
@@ -19,13 +18,12 @@ use Rattle.cr_macros.specs.MacroTables.{Macros, macro_text, table_of}
 use Rattle.cr_expand.specs.HideSets.{Sets}
 use Rattle.cr_expand.specs.Held.{held}
 use Rattle.cr_expand.specs.Frames.{Call}
-use Rattle.cr_expand.specs.Running.{Piece, current, before, wants_more, needs_more}
-use Rattle.cr_expand.specs.Slots.{piece, pieces, ended, ends, begun}
-use Rattle.cr_expand.specs.Turns.{list_of, IsNext, IsWanting}
+use Rattle.cr_expand.specs.Running.{current, wants_more, needs_more}
+use Rattle.cr_expand.specs.Slots.{pieces, ended, ends}
+use Rattle.cr_expand.specs.Turns.{IsNext, IsWanting}
 use Rattle.cr_expand.specs.Wanted.{is_wanted}
 use Rattle.cr_expand.specs.Machines.{total, still, IsMachine, IsEntered, IsArgumentEnd, IsWantedAt, IsTurnWanted}
 use Rattle.cr_expand.proofs.Going.{goes_end}
-use Rattle.cr_expand.proofs.Steps.{front}
 use Rattle.cr_expand.proofs.Calling.{total_last, ends_begun, ends_lists}
 
 pub next_finish : (names : List Text) (sets : Sets) (macros : Macros) (file : Text) (more : List Token) (slots : List Slot) → IsNext names sets macros file slots more turn.End → slots ≡ []

@@ -1,16 +1,16 @@
 -- Arguments of which only the first token is kept.
-use Rattle.std.proofs.Common.{◌≡◌, ℕ, zero, suc, ◌+◌, ◌<◌, Bool, true, false, cond, List, [], ◌∷◌, ◌++◌, length, refl, sym, ap, ◌∙◌, arith, None}
+use Rattle.std.proofs.Common.{◌≡◌, ℕ, zero, suc, ◌+◌, ◌<◌, Bool, true, false, List, [], ◌∷◌, ◌++◌, length, refl, sym, ap, ◌∙◌, arith, None}
 use Rattle.std.specs.List.{list_any, All}
 use Rattle.std.proofs.lemmas.List.Elements.{All-nil, All-cons, All-head, All-tail}
 use Rattle.std.proofs.lemmas.Bool.Decides.{nat_tests}
-use Rattle.std.specs.Prelude.{◌||◌, ◌==◌, not, flat_map, map, if◌then◌else◌}
+use Rattle.std.specs.Prelude.{◌||◌, ◌==◌, not, flat_map, if◌then◌else◌}
 use Rattle.cr_base.specs.declared.cause.Role.TheVariants.{MacroName, Dropped}
-use Rattle.cr_macros.specs.Tokens.{Text, Token, MacroText, Event, Answer, Gave, Work, after, then_do, ◌>>=◌, give, takes}
+use Rattle.cr_macros.specs.Tokens.{Text, Token, MacroText, Answer, Gave, Work, after, then_do, ◌>>=◌, give, takes}
 use Rattle.cr_macros.specs.Substitution.{Args, Item, Stays, Spelt, Bare, Full, CommaRest, Paste, body_items, is_use, arg_at, string_of, with_space, or_placemarker, comma_and, Is, filled, all_filled, all_pasted, placed, dropped}
 use Rattle.cr_macros.specs.Expansion.{put_in}
 use Rattle.cr_expand.specs.declared.held.Held.{Held}
 use Rattle.cr_expand.specs.HideSets.{Sets}
-use Rattle.cr_expand.specs.Held.{held, all_held, all_args}
+use Rattle.cr_expand.specs.Held.{all_held, all_args}
 use Rattle.cr_expand.specs.Running.{put_for}
 use Rattle.cr_expand.specs.Wanted.{is_as_is, is_whole, kept, all_kept, kept_more}
 use Rattle.cr_expand.proofs.Going.{then_same}

@@ -1,5 +1,5 @@
 -- Calls of function-like macros among slots (C11 6.10.3p10, p11).
-use Rattle.std.specs.Prelude.{◌≡◌, ℕ, zero, suc, ◌+◌, ◌-◌, ◌==◌, ◌&&◌, nat_le, slice_get, Bool, true, false, if◌then◌else◌, List, [], ◌∷◌, ◌++◌, length, codes, Option, Some, None}
+use Rattle.std.specs.Prelude.{Bool, ◌≡◌, ℕ, zero, suc, ◌+◌, ◌-◌, ◌==◌, ◌&&◌, nat_le, slice_get, if◌then◌else◌, List, ◌∷◌, ◌++◌, length, codes, Option, Some, None}
 use Rattle.std.specs.List.{All}
 use Rattle.cr_expand.specs.declared.held.Held.{Held}
 use Rattle.cr_expand.specs.declared.slot.Slot.{Slot}
@@ -7,7 +7,6 @@ use Rattle.cr_expand.specs.declared.slot.Slot.TheVariants as slot
 use Rattle.cr_expand.specs.declared.closing.Close.{Close}
 use Rattle.cr_expand.specs.declared.closing.Close.TheVariants as close
 use Rattle.cr_macros.specs.Tokens.{Text, Token, is_mark}
-use Rattle.cr_macros.specs.Substitution.{Args}
 use Rattle.cr_macros.specs.Expansion.{to_close, parted}
 use Rattle.cr_expand.specs.HideSets.{Sets}
 use Rattle.cr_expand.specs.Held.{held, all_held, all_args}

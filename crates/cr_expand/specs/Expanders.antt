@@ -1,10 +1,9 @@
 -- The machine of macro expansion, as its callers see it: what is left of the expansion of what it was fed and will be fed.
-use Rattle.std.specs.Prelude.{◌≡◌, ℕ, ◌+◌, ◌-◌, ◌≤◌, Bool, true, false, List, [], ◌∷◌, ◌++◌, map, Option, Some, None}
+use Rattle.std.specs.Prelude.{◌≡◌, ℕ, ◌-◌, true, false, List, [], ◌∷◌, ◌++◌, map, Option, Some, None}
 use Rattle.std.specs.List.{All}
 use Rattle.cr_base.specs.NameTable.{IsDistinct}
 use Rattle.cr_base.specs.declared.token.Name.{Name}
 use Rattle.cr_base.specs.declared.token.PpTok.{PpTok}
-use Rattle.cr_macros.specs.declared.macros.Seen.{Seen}
 use Rattle.cr_macros.specs.declared.fault.ExpandFault.{ExpandFault}
 use Rattle.cr_expand.specs.declared.machine.Machine.{Machine}
 use Rattle.cr_expand.specs.declared.machine.ExpStep.{ExpStep}
@@ -18,7 +17,6 @@ use Rattle.cr_macros.specs.MacroTables.{Macros, table_of}
 use Rattle.cr_expand.specs.HideSets.{Grows}
 use Rattle.cr_expand.specs.Held.{IsNamed, watch_of, noted}
 use Rattle.cr_expand.specs.Items.{IsTokenNamed}
-use Rattle.cr_expand.specs.Running.{leads}
 use Rattle.cr_expand.specs.Machines.{still, IsMachine, IsSameRun, IsStep}
 
 -- What is left of the expansion, where these tokens come behind what was fed.

@@ -1,5 +1,5 @@
 -- Tokens that are fed.
-use Rattle.std.specs.Prelude.{◌≡◌, ℕ, ◌<◌, List, [], ◌++◌, length, map}
+use Rattle.std.specs.Prelude.{◌≡◌, ◌<◌, List, [], ◌++◌, length, map}
 use Rattle.cr_base.specs.declared.token.PpTok.{PpTok}
 use Rattle.cr_expand.specs.declared.held.Held.{Held}
 use Rattle.cr_expand.specs.declared.hide_sets.HideSet.{HideSet}

@@ -1,5 +1,5 @@
 -- Which macros a machine may be handed, as lines are carried out.
-use Rattle.std.specs.Prelude.{◌≡◌, ℕ, ◌≤◌, List, [], length, Option, None}
+use Rattle.std.specs.Prelude.{◌≤◌, List, [], length, None}
 use Rattle.std.specs.List.{All}
 use Rattle.cr_base.specs.declared.token.Name.{Name}
 use Rattle.cr_base.specs.declared.token.PpTok.{PpTok}

@@ -1,10 +1,8 @@
 -- What a machine of macro expansion holds, and what it still gives.
-use Rattle.std.specs.Prelude.{◌≡◌, ℕ, suc, ◌+◌, ◌-◌, ◌<◌, ◌≤◌, Bool, true, false, List, [], ◌∷◌, ◌++◌, length, map, reverse, slice_index_or, Option, Some, None, ◌⊎◌}
+use Rattle.std.specs.Prelude.{Bool, ◌≡◌, ℕ, suc, ◌+◌, ◌-◌, ◌<◌, ◌≤◌, true, false, List, [], ◌∷◌, ◌++◌, length, map, reverse, slice_index_or, Option, Some, None, ◌⊎◌}
 use Rattle.std.specs.List.{All}
 use Rattle.cr_base.specs.declared.token.Name.{Name}
-use Rattle.cr_base.specs.declared.token.PpTok.{PpTok}
 use Rattle.cr_macros.specs.declared.macros.Macro.{Macro}
-use Rattle.cr_macros.specs.declared.macros.Seen.{Seen}
 use Rattle.cr_macros.specs.declared.fault.ExpandFault.{ExpandFault}
 use Rattle.cr_macros.specs.declared.fault.ExpandFault.TheVariants as fault
 use Rattle.cr_expand.specs.declared.held.Held.{Held}
@@ -20,11 +18,11 @@ use Rattle.cr_expand.specs.declared.machine.Machine.{Machine}
 use Rattle.cr_expand.specs.declared.machine.ExpStep.{ExpStep}
 use Rattle.cr_expand.specs.declared.machine.ExpStep.TheVariants as step
 use Rattle.cr_expand.specs.declared.machine.TheConstants.{LIMIT}
-use Rattle.cr_macros.specs.Tokens.{Text, Token, token_of, MacroText, Event, Rule, Taken, Answer, Gave, Stopped, Work, takes, with_name, both}
+use Rattle.cr_macros.specs.Tokens.{Text, Token, token_of, MacroText, Event, Rule, Taken, Answer, Gave, Work, takes, with_name, both}
 use Rattle.cr_macros.specs.Definition.{text_of}
 use Rattle.cr_macros.specs.MacroTables.{Macros, macro_named, macro_text, table_of}
 use Rattle.cr_expand.specs.HideSets.{Sets, Grows}
-use Rattle.cr_expand.specs.Held.{held, all_held, all_args, hidden, IsKnown, AreKnown, IsNamed, AreTables, Faults, watch_of, noted, Watch}
+use Rattle.cr_expand.specs.Held.{held, all_held, all_args, hidden, IsKnown, AreKnown, IsNamed, AreTables, Faults, watch_of, noted}
 use Rattle.cr_expand.specs.Frames.{Call}
 use Rattle.cr_expand.specs.Running.{Waiting, current, before, goes_on, leads, put_for, needs_more}
 use Rattle.cr_expand.specs.Slots.{pieces, tokens, ends, ended, begun, AreSlotsKnown}
@@ -92,9 +90,10 @@ uses [] = 0
 uses (Rule ∷ events) = 1 + uses events
 uses (Taken text place role ∷ events) = uses events
 
--- One use of a rule leads from one machine to another, and gives these tokens of the result; its events are noted.
+-- Exactly one use of a rule leads from one machine to another, and gives these tokens of the result; its events are noted.
 pub record IsUse (names new : List Text) (macros : Macros) (old now : Machine) (more out : List Token) : Type 0 where
   pub events : List Event
+  pub one : uses events ≡ 1
   pub goes : still names macros old more ≡ leads out events (still new macros now more)
   pub seen : now.notes.seen.items ≡ old.notes.seen.items ++ noted (watch_of names old.notes) events
 
@@ -102,6 +101,7 @@ pub record IsUse (names new : List Text) (macros : Macros) (old now : Machine) (
 pub record IsPut (names new : List Text) (old now : Machine) (work : Work (List Token)) (rest : List Slot) : Type 0 where
   pub list : List Held
   pub events : List Event
+  pub one : uses events ≡ 1
   pub gives : work (LIMIT - old.used) ≡ Gave (all_held new now.sets list) (LIMIT - now.used) events
   pub seen : now.notes.seen.items ≡ old.notes.seen.items ++ noted (watch_of names old.notes) events
   pub slots : now.slots.items ≡ tokens list ++ rest

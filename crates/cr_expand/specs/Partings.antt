@@ -1,5 +1,5 @@
 -- What is parted so far.
-use Rattle.std.specs.Prelude.{◌≡◌, ℕ, length, ◌-◌, Bool, true, false, List, [], ◌∷◌, ◌++◌, map, Option, Some, None}
+use Rattle.std.specs.Prelude.{◌≡◌, ℕ, length, ◌-◌, Bool, true, false, List, [], ◌∷◌, ◌++◌, map, Some, None}
 use Rattle.cr_expand.specs.declared.held.Held.{Held}
 use Rattle.cr_expand.specs.declared.parting.Parting.{Parting}
 use Rattle.cr_macros.specs.Tokens.{Text}

@@ -1,7 +1,7 @@
 -- What a machine of macro expansion still gives: the calls that wait for their arguments, and the pieces that are left.
-use Rattle.std.specs.Prelude.{ℕ, zero, suc, ◌+◌, Bool, true, false, if◌then◌else◌, List, [], ◌∷◌, ◌++◌, length, codes}
+use Rattle.std.specs.Prelude.{ℕ, zero, suc, Bool, true, false, List, [], ◌∷◌, ◌++◌, length, codes}
 use Rattle.cr_base.specs.declared.token.PpKind.TheVariants.{Punct}
-use Rattle.cr_macros.specs.Tokens.{Text, Token, MacroText, Event, Cause, ArgCount, OpenCall, BadPaste, Over, Answer, Gave, Stopped, Work, ◌>>=◌, is_mark, give}
+use Rattle.cr_macros.specs.Tokens.{Text, Token, MacroText, Event, ArgCount, OpenCall, BadPaste, Over, Answer, Gave, Stopped, Work, ◌>>=◌}
 use Rattle.cr_macros.specs.Substitution.{Args, body_items, subst}
 use Rattle.cr_macros.specs.Expansion.{Table, expand, expanded, put_in, Use, Keep, Predefined, Object, Call, Wrong, use_of}
 

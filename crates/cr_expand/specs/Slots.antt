@@ -1,12 +1,12 @@
 -- The pieces that are left, with names and hide sets by number.
-use Rattle.std.specs.Prelude.{◌≡◌, ℕ, ◌+◌, ◌<◌, ◌==◌, Bool, true, false, if◌then◌else◌, List, [], ◌∷◌, ◌++◌, length, map}
+use Rattle.std.specs.Prelude.{ℕ, ◌+◌, Bool, true, false, List, [], ◌∷◌, ◌++◌, map}
 use Rattle.std.specs.List.{All}
 use Rattle.cr_expand.specs.declared.held.Held.{Held}
 use Rattle.cr_expand.specs.declared.slot.Slot.{Slot}
 use Rattle.cr_expand.specs.declared.slot.Slot.TheVariants as slot
-use Rattle.cr_macros.specs.Tokens.{Text, Token}
+use Rattle.cr_macros.specs.Tokens.{Text}
 use Rattle.cr_expand.specs.HideSets.{Sets}
-use Rattle.cr_expand.specs.Held.{held, all_held, IsKnown}
+use Rattle.cr_expand.specs.Held.{held, IsKnown}
 use Rattle.cr_expand.specs.Running.{Piece, Stands, Ends}
 
 -- a slot with its text

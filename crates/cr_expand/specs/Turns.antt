@@ -8,7 +8,7 @@ use Rattle.cr_expand.specs.declared.slot.Slot.TheVariants as slot
 use Rattle.cr_expand.specs.declared.turn.Turn.{Turn}
 use Rattle.cr_expand.specs.declared.turn.Turn.TheVariants as turn
 use Rattle.cr_macros.specs.Tokens.{Text, Token, OpenCall}
-use Rattle.cr_macros.specs.Expansion.{Use, Keep, Predefined, Object, Wrong, predefined_token, arguments, counted_call, call_of, use_of}
+use Rattle.cr_macros.specs.Expansion.{Use, Keep, Predefined, Object, Wrong, predefined_token, arguments, counted_call, use_of}
 use Rattle.cr_macros.specs.Definition.{text_of}
 use Rattle.cr_macros.specs.MacroTables.{Macros, macro_named, macro_text, table_of}
 use Rattle.cr_expand.specs.HideSets.{Sets}

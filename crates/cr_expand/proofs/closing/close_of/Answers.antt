@@ -1,4 +1,4 @@
-use Rattle.std.proofs.Common.{◌≡◌, ◌<◌, ◌≤◌, length, arith, sym, ◌∙◌, ap}
+use Rattle.std.proofs.Common.{◌<◌, length, arith}
 use Rattle.cr_expand.proofs.Closes.{found_first, found_more, found_close, found_missing, found_not_yet, here}
 use Rattle.cr_expand.proofs.closing.close_of.Goals as goal
 

@@ -1,7 +1,5 @@
-use Rattle.std.proofs.Common.{◌≡◌, ◌<◌, arith, sym, ap, subst, ◌∙◌, map, ◌++◌, [], ◌∷◌, List, refl, length}
+use Rattle.std.proofs.Common.{◌≡◌, ◌<◌, arith, ap, subst, ◌∙◌, map, [], ◌∷◌, length}
 use Rattle.std.proofs.lemmas.List.{map-append}
-use Rattle.cr_expand.specs.Partings.{lists_of}
-use Rattle.cr_expand.specs.Calls.{ArePartedAt}
 use Rattle.cr_expand.specs.Wanted.{is_marked_whole}
 use Rattle.cr_expand.proofs.PartedLists.{kept_first, token_here, within_here, parted_more, parted_ends, call_place}
 use Rattle.cr_expand.proofs.parting.part.Goals as goal

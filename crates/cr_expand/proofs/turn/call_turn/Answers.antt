@@ -1,4 +1,4 @@
-use Rattle.std.proofs.Common.{◌≡◌, ◌<◌, ◌∷◌, arith, length, refl, sym, ◌∙◌, ap}
+use Rattle.std.proofs.Common.{◌<◌, ◌∷◌, arith, length, refl, sym, ◌∙◌, ap}
 use Rattle.cr_expand.specs.declared.slot.Slot.TheVariants as slot
 use Rattle.cr_expand.proofs.Turning.{second}
 use Rattle.cr_expand.proofs.turn.call_turn.Goals as goal

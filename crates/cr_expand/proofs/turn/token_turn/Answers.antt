@@ -1,4 +1,4 @@
-use Rattle.std.proofs.Common.{refl, sym, ◌∙◌, ap, length, map}
+use Rattle.std.proofs.Common.{◌∙◌, ap, length, map}
 use Rattle.cr_macros.specs.Definition.{text_of}
 use Rattle.cr_macros.specs.Expansion.{call_of}
 use Rattle.cr_macros.specs.MacroTables.{macro_text}

@@ -1,4 +1,4 @@
-use Rattle.std.proofs.Common.{◌≡◌, ◌<◌, arith, length, refl}
+use Rattle.std.proofs.Common.{◌<◌, arith, length, refl}
 use Rattle.cr_expand.proofs.Turning.{first_is, next_token}
 use Rattle.cr_expand.proofs.turn.turn_of.Goals as goal
 

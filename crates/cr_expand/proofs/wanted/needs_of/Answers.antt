@@ -1,5 +1,4 @@
 use Rattle.std.proofs.Common.{◌∙◌, ap}
-use Rattle.std.specs.Prelude.{◌||◌, not}
 use Rattle.std.specs.List.{list_any}
 use Rattle.cr_macros.specs.Substitution as spec
 use Rattle.cr_expand.specs.Items.{item_texts}

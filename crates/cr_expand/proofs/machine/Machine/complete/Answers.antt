@@ -1,9 +1,6 @@
-use Rattle.std.proofs.Common.{◌≡◌, ◌-◌, ◌+◌, [], refl, ap, sym, subst, ◌∙◌, Some, map, arith}
+use Rattle.std.proofs.Common.{◌≡◌, refl, ap, sym, ◌∙◌, Some, map, arith}
 use Rattle.std.specs.Option.{option_copied}
-use Rattle.cr_expand.specs.declared.machine.TheConstants.{LIMIT}
-use Rattle.cr_macros.specs.MacroTables.{macro_text, macro_named}
-use Rattle.cr_expand.specs.Held.{held, hidden, all_args, Faults}
-use Rattle.cr_expand.specs.Running.{put_for}
+use Rattle.cr_macros.specs.MacroTables.{macro_named}
 use Rattle.cr_expand.proofs.Sets.{grows_same}
 use Rattle.cr_expand.proofs.Puttings.{put_again}
 use Rattle.cr_expand.proofs.Looked.{found_known, found_short, call_work}

@@ -1,9 +1,8 @@
-use Rattle.std.proofs.Common.{◌≡◌, ℕ, Bool, false, not, drop, refl, sym, ap, ◌∙◌, arith}
+use Rattle.std.proofs.Common.{◌≡◌, ℕ, Bool, false, drop, refl, sym, ap, ◌∙◌, arith}
 use Rattle.std.specs.Prelude.{nat_lt}
 use Rattle.std.proofs.lemmas.Bool.Decides.{nat_tests}
 use Rattle.cr_expand.specs.Machines.{put_for_call}
 use Rattle.cr_expand.proofs.Sets.{grows_same}
-use Rattle.cr_expand.proofs.Nexts.{next_end}
 use Rattle.cr_expand.proofs.Puttings.{put_again}
 use Rattle.cr_expand.proofs.machine.Machine.end_argument.Goals as goal
 

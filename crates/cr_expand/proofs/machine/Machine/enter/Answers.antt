@@ -1,4 +1,4 @@
-use Rattle.std.proofs.Common.{◌≡◌, ◌<◌, ◌++◌, ◌∷◌, List, [], map, drop, arith, refl, sym, ap, subst, ◌∙◌, length}
+use Rattle.std.proofs.Common.{◌<◌, ◌++◌, ◌∷◌, [], map, drop, arith, sym, ap, subst, ◌∙◌, length}
 use Rattle.std.proofs.lemmas.Result.{err_from_is_err_and}
 use Rattle.cr_macros.specs.Tokens.{with_name, both}
 use Rattle.cr_macros.specs.Definition.{text_of}

@@ -1,4 +1,4 @@
-use Rattle.std.proofs.Common.{◌≡◌, sym, subst, ◌∙◌}
+use Rattle.std.proofs.Common.{sym, subst, ◌∙◌}
 use Rattle.cr_expand.specs.Machines.{IsTurnStep, IsTurnWanted}
 use Rattle.cr_expand.proofs.Silent.{silent_more, step_after, wanted_after}
 use Rattle.cr_expand.proofs.machine.Machine.next.Goals as goal

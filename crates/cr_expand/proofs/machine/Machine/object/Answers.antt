@@ -1,8 +1,8 @@
-use Rattle.std.proofs.Common.{◌≡◌, ◌-◌, [], refl, ap, sym, subst, ◌∙◌}
+use Rattle.std.proofs.Common.{◌-◌, [], refl, subst}
 use Rattle.std.proofs.lemmas.Result.{err_from_is_err_and}
 use Rattle.cr_expand.specs.declared.machine.TheConstants.{LIMIT}
 use Rattle.cr_macros.specs.MacroTables.{macro_text}
-use Rattle.cr_macros.specs.Tokens.{with_name, Work, Token}
+use Rattle.cr_macros.specs.Tokens.{with_name}
 use Rattle.cr_macros.specs.Definition.{text_of}
 use Rattle.cr_expand.specs.Held.{held, hidden, Faults}
 use Rattle.cr_expand.specs.Running.{put_for}

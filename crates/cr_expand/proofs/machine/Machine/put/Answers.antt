@@ -1,4 +1,4 @@
-use Rattle.std.proofs.Common.{◌≡◌, ◌<◌, ◌-◌, ◌+◌, ◌++◌, ap, sym, ◌∙◌, length, arith, map}
+use Rattle.std.proofs.Common.{◌-◌, ◌++◌, ap, ◌∙◌, arith, map}
 use Rattle.std.proofs.lemmas.Result.{err_from_is_err_and}
 use Rattle.cr_expand.specs.declared.machine.TheConstants.{LIMIT}
 use Rattle.cr_macros.specs.Substitution as spec
@@ -7,6 +7,7 @@ use Rattle.cr_macros.specs.Expansion.{put_in}
 use Rattle.cr_expand.specs.Held.{watch_of, hidden, held, all_held, all_args}
 use Rattle.cr_expand.specs.Slots.{tokens}
 use Rattle.cr_expand.proofs.Telling.{faults_first}
+use Rattle.cr_expand.proofs.Quiet.{quiet_subst}
 use Rattle.cr_expand.proofs.Puttings.{is_put, faults_over, length_held}
 use Rattle.cr_expand.proofs.machine.Machine.put.Goals as goal
 
@@ -31,6 +32,8 @@ returns-clause-put c =
     (all_args c.args.names.now c.args.self.now.sets (map (λ v. v.items) c.args.full.now)) (hidden c.args.names.now c.args.self.now.sets c.args.hide.0))
     c.args.self.now.slots.items c.in_ok-list.list.items
     ((c.in_ok-list.ensures.does (hidden c.args.names.now c.args.self.now.sets c.args.name.hide.0)).at (LIMIT - c.args.self.now.used))
+    ((quiet_subst (held c.args.names.now c.args.self.now.sets c.args.name) (macro_text c.args.names.now c.args.m.now) (all_args c.args.names.now c.args.self.now.sets (map (λ v. v.items) c.args.raw.now))
+    (all_args c.args.names.now c.args.self.now.sets (map (λ v. v.items) c.args.full.now)) (hidden c.args.names.now c.args.self.now.sets c.args.hide.0)).at (LIMIT - c.args.self.now.used))
     (omega (arith, c.in_ok-self.ensures, c.len.ensures, c.in_ok-list.list.ok))
     c.in_ok-self.ensures.1
     (c.in_ok-put_front.ensures ∙ ap (λ l. tokens l ++ c.args.self.now.slots.items) c.deref.ensures.value)

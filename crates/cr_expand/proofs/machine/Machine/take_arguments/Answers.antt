@@ -1,6 +1,5 @@
-use Rattle.std.proofs.Common.{◌≡◌, ◌≤◌, ◌<◌, ◌+◌, ◌-◌, List, [], suc, length, map, arith, refl, sym, ap, ◌∙◌, inr, Some, None}
+use Rattle.std.proofs.Common.{length, ◌-◌, [], map, arith, refl, sym, ap, ◌∙◌, inr}
 use Rattle.std.specs.Prelude.{option_map}
-use Rattle.cr_expand.specs.declared.held.Held.{Held}
 use Rattle.cr_expand.proofs.PartedLists.{call_place}
 use Rattle.cr_expand.proofs.Counting.{some_lists, taken, miscounted, commas_are, length_map}
 use Rattle.cr_expand.proofs.Wholes.{length_all_kept}

@@ -1,15 +1,11 @@
-use Rattle.std.proofs.Common.{◌≡◌, ℕ, suc, ◌+◌, ◌-◌, ◌<◌, ◌≤◌, List, [], ◌∷◌, ◌++◌, length, drop, refl, sym, ap, subst, ◌∙◌, arith, Some, None, inl, inr}
+use Rattle.std.proofs.Common.{◌-◌, ◌≤◌, [], drop, refl, sym, ap, subst, arith}
 use Rattle.std.proofs.lemmas.Result.{err_from_is_err_and}
 use Rattle.cr_expand.specs.declared.machine.TheConstants.{LIMIT}
-use Rattle.cr_expand.specs.declared.machine.ExpStep.TheVariants as step
 use Rattle.cr_expand.specs.declared.slot.Slot.TheVariants as slot
 use Rattle.cr_macros.specs.Definition.{text_of}
-use Rattle.cr_macros.specs.Tokens.{Text}
 use Rattle.cr_macros.specs.Expansion.{predefined_token, use_of}
 use Rattle.cr_expand.specs.Held.{held, AreTables, IsKnown}
 use Rattle.cr_expand.proofs.Kept.{tables_later, sets_named_later}
-use Rattle.cr_expand.specs.Machines.{IsStep, IsPut}
-use Rattle.cr_expand.proofs.Telling.{no_memory}
 use Rattle.cr_expand.proofs.Sets.{grows_same}
 use Rattle.cr_expand.proofs.Looked.{found_known, found_short, keys_known}
 use Rattle.cr_expand.proofs.Nexts.{next_stays, next_predefined, next_object, next_call, next_end, next_unclosed}
