@@ -7,6 +7,7 @@ ghost use Rattle.cr_expand.specs.Feeding.{IsPutBack};
 ghost use Rattle.cr_expand.specs.Machines.{AreMacros, IsStep, IsWantedAt, IsSameRun};
 ghost use Rattle.cr_expand.specs.Expanders.{left_over, IsRunning, IsFresh, IsFed, Steps, GivesTheExpansion};
 
+use crate::closing::Search;
 use crate::held::Held;
 use crate::hide_sets::HideSets;
 use crate::machine::{ExpStep, LIMIT, Machine};
@@ -22,6 +23,7 @@ use std::collections::VecDeque;
 #[derive(Drop)]
 pub struct Expander {
     machine: Machine,
+    search: Search,
     fault: Option<ExpandFault>,
 }
 
@@ -64,6 +66,7 @@ impl Expander {
                 used: work,
                 finished: false,
             },
+            search: Search::new(),
             fault: None,
         }
     }
@@ -112,7 +115,7 @@ impl Expander {
         if let Some(fault) = self.fault {
             return Err(fault);
         }
-        match self.machine.next(names, macros) {
+        match self.machine.next(names, macros, &mut self.search) {
             Ok(step) => Ok(step),
             Err(fault) => {
                 self.fault = Some(fault);
