@@ -1,6 +1,6 @@
 -- Where a call's arguments end, token by token.
-use Rattle.std.proofs.Common.{◌≡◌, ℕ, zero, suc, ◌+◌, ◌<◌, ◌≤◌, Bool, true, false, cond, List, [], ◌∷◌, ◌++◌, length, get_or, refl, sym, ap, ◌∙◌, arith, append_assoc, append-nil, length-append, Option, Some, None}
-use Rattle.std.specs.Prelude.{codes}
+use Rattle.std.proofs.Common.{◌≡◌, ℕ, zero, suc, ◌+◌, ◌<◌, ◌≤◌, Bool, true, false, cond, List, [], ◌∷◌, ◌++◌, length, map, get_or, refl, sym, ap, ◌∙◌, arith, append_assoc, append-nil, length-append, Option, Some, None, ◌⊎◌, inl, inr}
+use Rattle.std.specs.Prelude.{codes, if◌then◌else◌}
 use Rattle.std.proofs.lemmas.List.{map-append, get_or_default}
 use Rattle.cr_expand.specs.declared.held.Held.{Held}
 use Rattle.cr_expand.specs.declared.slot.Slot.{Slot}
@@ -11,15 +11,8 @@ use Rattle.cr_macros.specs.Expansion.{found_after, closed_by, to_close}
 use Rattle.cr_expand.specs.HideSets.{Sets}
 use Rattle.cr_expand.specs.Held.{held, all_held}
 use Rattle.cr_expand.specs.Slots.{tokens}
-use Rattle.cr_expand.specs.Calls.{one_less, nested, IsClosed}
-
-abbrev pub Found : Type 0
-Found = Option (List Token × Token × List Token)
-
--- what was found, with more before it
-abbrev pub found_behind : List Token → Found → Found
-found_behind before None = None
-found_behind before (Some p) = Some (before ++ p.0, p.1, p.2)
+use Rattle.cr_expand.specs.declared.closing.Search.{Search}
+use Rattle.cr_expand.specs.Calls.{one_less, nested, IsClosed, Found, found_behind, IsAtDepth, IsFound, IsSearched}
 
 behind_after : (before : List Token) (t : Token) (o : Found) → found_behind before (found_after t o) ≡ found_behind (before ++ t ∷ []) o
 behind_after before t None = refl
@@ -38,10 +31,6 @@ close_cases t ts depth false = refl
 
 close_nested : (t : Token) (ts : List Token) (depth : ℕ) → to_close depth (t ∷ ts) ≡ by_nested t ts (nested t depth)
 close_nested t ts depth = close_cases t ts depth (is_mark (codes ")") t)
-
--- Tokens at this depth behind those inside.
-abbrev pub IsAtDepth : List Text → List Held → ℕ → Type 0
-IsAtDepth names inside depth = (sets : Sets) (ts : List Token) → to_close 0 (all_held names sets inside ++ ts) ≡ found_behind (all_held names sets inside) (to_close depth ts)
 
 pub at_first : (names : List Text) → IsAtDepth names [] 0
 at_first names = λ sets ts. same (to_close 0 ts) where
@@ -82,11 +71,6 @@ at_place xs pre (r ∷ rs) i d e l h = (rs, ap (λ x. x ∷ rs) (sym (ap (λ y. 
 
 tokens_more : (inside : List Held) (h : Held) (rest : List Slot) → tokens (inside ++ h ∷ []) ++ rest ≡ tokens inside ++ slot.Token h ∷ rest
 tokens_more inside h rest = ap (λ l. l ++ rest) (map-append (λ x. slot.Token x) inside (h ∷ [])) ∙ append_assoc (tokens inside) (slot.Token h ∷ []) rest
-
--- The slots up to a place, with this depth behind them.
-abbrev pub IsFound : List Text → List Slot → ℕ → ℕ → Type 0
-IsFound names slots i depth =
-    (a b : Slot) × (inside : List Held) × (rest : List Slot) × (slots ≡ a ∷ b ∷ (tokens inside ++ rest)) × (2 + length inside ≡ i) × IsAtDepth names inside depth
 
 pub found_first : (names : List Text) (slots : List Slot) → 2 ≤ length slots → IsFound names slots 2 0
 found_first names [] h = absurd (omega arith)
@@ -132,3 +116,18 @@ found_not_yet names sets slots i depth (a, b, inside, r ∷ rest, e, l, k) le =
 -- what stands at a place
 pub here : (slots : List Slot) (i : ℕ) (x y : Slot) → i < length slots → x ≡ get_or slots i x → x ≡ y → get_or slots i slot.End ≡ y
 here slots i x y h e f = sym (get_or_default slots i x slot.End h) ∙ sym e ∙ f
+
+pub searched_first : (names : List Text) (slots : List Slot) (s : Search) → (s.at ≡ 2) × (s.depth ≡ 0) → IsSearched names slots s
+searched_first names slots s e = (omega (arith, e), inl e)
+
+pub searched_found : (names : List Text) (slots : List Slot) (s : Search) → 2 ≤ length slots → IsSearched names slots s → IsFound names slots s.at s.depth
+searched_found names slots s h k = elim k.1 [
+  | inl e ↦ rw (e.0, e.1) (found_first names slots h)
+  | inr f ↦ f
+]
+
+pub searched_fed : (names : List Text) (slots more : List Slot) (s : Search) → IsSearched names slots s → IsSearched names (slots ++ more) s
+searched_fed names slots more s k = elim k.1 [
+  | inl e ↦ (k.0, inl e)
+  | inr f ↦ (k.0, inr (f.0, f.1, f.2, f.3 ++ more, ap (λ l. l ++ more) f.4 ∙ ap (λ l. f.0 ∷ f.1 ∷ l) (append_assoc (tokens f.2) f.3 more), f.5, f.6))
+]

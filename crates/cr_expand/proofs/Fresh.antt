@@ -24,6 +24,9 @@ use Rattle.cr_expand.specs.Slots.{pieces, tokens, ends, IsSlotKnown, AreSlotsKno
 use Rattle.cr_expand.specs.Feeding.{all_with, IsPutBack}
 use Rattle.cr_expand.specs.Machines.{still, total, IsMachine, IsCallKnown}
 use Rattle.cr_expand.specs.Expanders.{runs_by}
+use Rattle.cr_expand.specs.declared.closing.Search.{Search}
+use Rattle.cr_expand.specs.Calls.{IsSearched}
+use Rattle.cr_expand.proofs.Closes.{searched_fed}
 use Rattle.cr_expand.proofs.Going.{current_before}
 use Rattle.cr_expand.proofs.Steps.{front, front_tokens}
 use Rattle.cr_expand.proofs.Calling.{tokens_known}
@@ -88,13 +91,14 @@ fed_machine names macros old now fed (hide, k, e, s) a b c d n t m = record {
   limit = subst (λ u. u ≤ LIMIT) (sym d) m.limit;
 }
 
-pub fed_runs : (names : List Text) (macros : Macros) (old now : Machine) (o : Option ExpandFault) → (IsMachine names macros old → IsMachine names macros now) → runs_by names macros old o → runs_by names macros now o
-fed_runs names macros old now None f k = f k
-fed_runs names macros old now (Some x) f k = tt
+pub fed_runs : (names : List Text) (macros : Macros) (old now : Machine) (search : Search) (o : Option ExpandFault) (fed : List PpTok) → IsPutBack old.sets old.slots.items now.slots.items fed
+    → (IsMachine names macros old → IsMachine names macros now) → runs_by names macros old search o → runs_by names macros now search o
+fed_runs names macros old now search None fed (hide, h, e, s) f k = (f k.0, subst (λ l. IsSearched names l search) (sym s) (searched_fed names old.slots.items (tokens (all_with hide fed)) search k.1))
+fed_runs names macros old now search (Some x) fed p f k = tt
 
 -- that no more comes changes nothing that is held
-pub finished_runs : (names : List Text) (macros : Macros) (m now : Machine) (o : Option ExpandFault) → now ≡ record m { finished = true } → runs_by names macros m o → runs_by names macros now o
-finished_runs names macros m now o e k = subst (λ n. runs_by names macros n o) (sym e) (by o k) where
-  by : (o : Option ExpandFault) → runs_by names macros m o → runs_by names macros (record m { finished = true }) o
-  by None k = record { tables = k.tables; slots = k.slots; calls = k.calls; watched = k.watched; file = k.file; ends = k.ends; limit = k.limit }
+pub finished_runs : (names : List Text) (macros : Macros) (m now : Machine) (search : Search) (o : Option ExpandFault) → now ≡ record m { finished = true } → runs_by names macros m search o → runs_by names macros now search o
+finished_runs names macros m now search o e k = subst (λ n. runs_by names macros n search o) (sym e) (by o k) where
+  by : (o : Option ExpandFault) → runs_by names macros m search o → runs_by names macros (record m { finished = true }) search o
+  by None k = (record { tables = k.0.tables; slots = k.0.slots; calls = k.0.calls; watched = k.0.watched; file = k.0.file; ends = k.0.ends; limit = k.0.limit }, k.1)
   by (Some x) k = tt

@@ -1,9 +1,10 @@
 -- Calls of function-like macros among slots (C11 6.10.3p10, p11).
-use Rattle.std.specs.Prelude.{Bool, ◌≡◌, ℕ, zero, suc, ◌+◌, ◌-◌, ◌==◌, ◌&&◌, nat_le, slice_get, if◌then◌else◌, List, ◌∷◌, ◌++◌, length, codes, Option, Some, None}
+use Rattle.std.specs.Prelude.{◌≡◌, ℕ, zero, suc, ◌+◌, ◌-◌, ◌==◌, ◌&&◌, nat_le, slice_get, Bool, true, false, if◌then◌else◌, List, [], ◌∷◌, ◌++◌, length, codes, Option, Some, None, ◌≤◌, ◌⊎◌}
 use Rattle.std.specs.List.{All}
 use Rattle.cr_expand.specs.declared.held.Held.{Held}
 use Rattle.cr_expand.specs.declared.slot.Slot.{Slot}
 use Rattle.cr_expand.specs.declared.slot.Slot.TheVariants as slot
+use Rattle.cr_expand.specs.declared.closing.Search.{Search}
 use Rattle.cr_expand.specs.declared.closing.Close.{Close}
 use Rattle.cr_expand.specs.declared.closing.Close.TheVariants as close
 use Rattle.cr_macros.specs.Tokens.{Text, Token, is_mark}
@@ -62,3 +63,25 @@ ArePartedAt names n a b inside rest lists slots =
 abbrev pub AreKeptAt : List Text → ℕ → (ℕ → Bool) → Slot → Slot → List Held → List Slot → List (List Held) → List Slot → Type 0
 AreKeptAt names n whole a b inside rest lists slots =
     (all : List (List Held)) × ArePartedAt names n a b inside rest all slots × (lists ≡ all_kept whole 0 all)
+
+-- what `to_close` finds
+abbrev pub Found : Type 0
+Found = Option (List Token × Token × List Token)
+
+-- what was found, with more before it
+abbrev pub found_behind : List Token → Found → Found
+found_behind before None = None
+found_behind before (Some p) = Some (before ++ p.0, p.1, p.2)
+
+-- Tokens at this depth behind those inside.
+abbrev pub IsAtDepth : List Text → List Held → ℕ → Type 0
+IsAtDepth names inside depth = (sets : Sets) (ts : List Token) → to_close 0 (all_held names sets inside ++ ts) ≡ found_behind (all_held names sets inside) (to_close depth ts)
+
+-- The slots up to a place, with this depth behind them.
+abbrev pub IsFound : List Text → List Slot → ℕ → ℕ → Type 0
+IsFound names slots i depth =
+    (a b : Slot) × (inside : List Held) × (rest : List Slot) × (slots ≡ a ∷ b ∷ (tokens inside ++ rest)) × (2 + length inside ≡ i) × IsAtDepth names inside depth
+
+-- The search went so far that this is known; or nothing is.
+abbrev pub IsSearched : List Text → List Slot → Search → Type 0
+IsSearched names slots s = (s.depth ≤ s.at) × (((s.at ≡ 2) × (s.depth ≡ 0)) ⊎ IsFound names slots s.at s.depth)

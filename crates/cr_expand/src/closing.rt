@@ -3,7 +3,7 @@ ghost use Rattle.std.specs.Prelude.{◌≡◌, ◌≤◌, ◌+◌, ◌^◌, leng
 ghost use Rattle.cr_macros.specs.Tokens.{Text};
 ghost use Rattle.cr_expand.specs.HideSets.{Sets};
 ghost use Rattle.cr_expand.specs.Held.{held};
-ghost use Rattle.cr_expand.specs.Calls.{nested, IsClosed};
+ghost use Rattle.cr_expand.specs.Calls.{nested, IsClosed, IsSearched};
 
 use crate::held::Held;
 use crate::slot::Slot;
@@ -22,6 +22,23 @@ pub enum Close {
     NotYet,
 }
 
+/// How far the slots were searched for the `)` of the call at the head, and how many `(` are open
+/// there.
+#[derive(Clone, Copy, Debug)]
+pub struct Search {
+    pub at: usize,
+    pub depth: usize,
+}
+
+impl Search {
+    /// A search that begins behind the call's name and `(`.
+    pub fn new() -> Search
+        ensures { result ≡ record { at = 2; depth = 0 } }
+    {
+        Search { at: 2, depth: 0 }
+    }
+}
+
 // How many `(` are open behind a token; none where it is the `)` that matches.
 fn depth_behind(names: &NameTable, depth: usize, h: Held) -> Option<usize>
     requires { depth ≤ 2 ^ 63 }
@@ -37,13 +54,16 @@ fn depth_behind(names: &NameTable, depth: usize, h: Held) -> Option<usize>
     Some(depth)
 }
 
-/// Finds the `)` of a call at the head.
-pub fn close_of(names: &NameTable, slots: &VecDeque<Slot>) -> Close
-    requires { 2 ≤ length slots.now.items }
-    ensures { (sets : Sets) → IsClosed names.now sets slots.now.items result }
+/// Finds the `)` of a call at the head, from where the search is. Where it isn't there yet, the
+/// search goes on from the slots' end.
+pub fn close_of(names: &NameTable, slots: &VecDeque<Slot>, search: &mut Search) -> Close
+    requires slots { 2 ≤ length slots.now.items }
+    requires search { IsSearched names.now slots.now.items search.old }
+    ensures closed { (sets : Sets) → IsClosed names.now sets slots.now.items result }
+    ensures search { IsSearched names.now slots.now.items search.new }
 {
-    let mut depth = 0usize;
-    for i in 2..slots.len() {
+    let Search { at, mut depth } = *search;
+    for i in at..slots.len() {
         match slots[i] {
             Slot::End => return Close::Missing,
             Slot::Token(h) => match depth_behind(names, depth, h) {
@@ -52,5 +72,9 @@ pub fn close_of(names: &NameTable, slots: &VecDeque<Slot>) -> Close
             },
         }
     }
+    *search = Search {
+        at: slots.len(),
+        depth,
+    };
     Close::NotYet
 }

@@ -8,6 +8,7 @@ ghost use Rattle.cr_expand.specs.Feeding.{IsPutBack};
 ghost use Rattle.cr_expand.specs.Machines.{AreMacros, IsStep, IsWantedAt, IsSameRun};
 ghost use Rattle.cr_expand.specs.Expanders.{left_over, IsRunning, IsFresh, IsFed, Steps, GivesTheExpansion};
 
+use crate::closing::Search;
 use crate::held::Held;
 use crate::hide_sets::HideSets;
 use crate::machine::{ExpStep, LIMIT, Machine};
@@ -23,6 +24,7 @@ use std::collections::VecDeque;
 #[derive(Drop)]
 pub struct Expander {
     machine: Machine,
+    search: Search,
     fault: Option<ExpandFault>,
 }
 
@@ -65,6 +67,7 @@ impl Expander {
                 used: work,
                 finished: false,
             },
+            search: Search::new(),
             fault: None,
         }
     }
@@ -113,7 +116,7 @@ impl Expander {
         if let Some(fault) = self.fault {
             return Err(fault);
         }
-        match self.machine.next(names, macros) {
+        match self.machine.next(names, macros, &mut self.search) {
             Ok(step) => Ok(step),
             Err(fault) => {
                 self.fault = Some(fault);

@@ -14,11 +14,12 @@ ghost use Rattle.cr_expand.specs.declared.held.Held.{Held as TheHeld};
 ghost use Rattle.cr_expand.specs.declared.slot.Slot.{Slot as TheSlot};
 ghost use Rattle.cr_expand.specs.Held.{all_held};
 ghost use Rattle.cr_expand.specs.Slots.{tokens, AreSlotsKnown};
-ghost use Rattle.cr_expand.specs.Calls.{IsCallAt};
+ghost use Rattle.cr_expand.specs.Calls.{IsCallAt, IsSearched};
 ghost use Rattle.cr_expand.specs.HideSets.{Grows};
 ghost use Rattle.cr_expand.specs.Wanted.{is_marked_whole};
 ghost use Rattle.cr_expand.specs.Machines.{IsGiven, IsPut, IsSameRun, IsSameElsewhere, IsPredefinedUse, IsClosedAt, IsEntered, IsCallHeld, IsMachine, IsArgumentEnd, IsArgumentFault, BeginsWithEnd, AreMacros, put_for_call, AreTaken, IsMiscounted, IsTurnStep, IsTurnWanted, IsStep, IsWantedAt, still};
 
+use crate::closing::Search;
 use crate::frame::Frame;
 use crate::held::Held;
 use crate::hide_sets::{HideSet, HideSets};
@@ -320,41 +321,56 @@ impl Machine {
         &mut self,
         names: &mut NameTable,
         macros: &MacroTable,
+        search: &mut Search,
     ) -> Result<Option<ExpStep>, ExpandFault>
         requires room { length names.old < 2 ^ 31 }
         requires macros { AreMacros names.old macros.now }
         requires machine { IsMachine names.old macros.now self.old }
+        requires search { IsSearched names.old self.old.slots.items search.old }
         ensures step { (more : List Token) → (self.old.finished ≡ true → more ≡ []) → IfOk result (λ o. IsTurnStep names.old names.new macros.now self.old self.new more o) }
         ensures wanted { IfOk result (λ o. IsTurnWanted names.old names.new macros.now self.old self.new o) }
         ensures faults { (more : List Token) → (self.old.finished ≡ true → more ≡ []) → IfErr result (λ e. Faults (still names.old macros.now self.old more) e) }
         ensures machine { OnOk result (IsMachine names.new macros.now self.new) }
+        ensures search { OnOk result (IsSearched names.new self.new.slots.items search.new) }
         ensures grows { OnOk result (Grows names.old names.new) }
         ensures same { OnOk result (IsSameRun self.old self.new) }
         ensures smaller { IfOk result (λ o. o ≡ None → length self.new.slots.items < length self.old.slots.items) }
     {
         expansion_follows_the_rules();
-        let turn = turn_of(names, macros, &self.sets, &self.slots, self.finished);
+        let turn = turn_of(
+            names,
+            macros,
+            &self.sets,
+            &self.slots,
+            search,
+            self.finished,
+        );
         match turn {
             Turn::End => Ok(Some(ExpStep::End)),
             Turn::Hungry => Ok(Some(ExpStep::Hungry)),
             Turn::Unclosed(site) => Err(ExpandFault::OpenCall(site)),
             Turn::ArgumentEnd => {
+                *search = Search::new();
                 let step = self.end_argument(names, macros)?;
                 Ok(step)
             }
             Turn::Stays(h) => {
+                *search = Search::new();
                 let step = self.keep(h)?;
                 Ok(Some(step))
             }
             Turn::Predefined(h, p) => {
+                *search = Search::new();
                 let step = self.predefined(names, h, p)?;
                 Ok(Some(step))
             }
             Turn::Object(h, m) => {
+                *search = Search::new();
                 let step = self.object(names, h, m)?;
                 Ok(Some(step))
             }
             Turn::Call(h, m, count, close) => {
+                *search = Search::new();
                 self.enter(names, h, m, count, close)?;
                 Ok(None)
             }
@@ -366,19 +382,22 @@ impl Machine {
         &mut self,
         names: &mut NameTable,
         macros: &MacroTable,
+        search: &mut Search,
     ) -> Result<ExpStep, ExpandFault>
         requires room { length names.old < 2 ^ 31 }
         requires macros { AreMacros names.old macros.now }
         requires machine { IsMachine names.old macros.now self.old }
+        requires search { IsSearched names.old self.old.slots.items search.old }
         ensures step { (more : List Token) → (self.old.finished ≡ true → more ≡ []) → IfOk result (λ s. IsStep names.old names.new macros.now self.old self.new more s) }
         ensures wanted { IfOk result (λ s. IsWantedAt names.old macros.now self.old s) }
         ensures faults { (more : List Token) → (self.old.finished ≡ true → more ≡ []) → IfErr result (λ e. Faults (still names.old macros.now self.old more) e) }
         ensures machine { OnOk result (IsMachine names.new macros.now self.new) }
+        ensures search { OnOk result (IsSearched names.new self.new.slots.items search.new) }
         ensures grows { OnOk result (Grows names.old names.new) }
         ensures same { OnOk result (IsSameRun self.old self.new) }
     {
         loop {
-            if let Some(step) = self.turn(names, macros)? {
+            if let Some(step) = self.turn(names, macros, search)? {
                 return Ok(step);
             }
         }

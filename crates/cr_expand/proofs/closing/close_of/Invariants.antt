@@ -1,5 +1,5 @@
 use Rattle.std.proofs.Common.{◌≤◌}
-use Rattle.cr_expand.proofs.Closes.{IsFound}
+use Rattle.cr_expand.specs.Calls.{IsFound}
 use Rattle.cr_expand.proofs.closing.close_of.Given as goal
 
 abbrev pub invariant-loop-i : goal.invariant-loop-i

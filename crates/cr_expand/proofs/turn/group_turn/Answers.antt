@@ -3,16 +3,16 @@ use Rattle.cr_expand.proofs.turn.group_turn.Goals as goal
 
 pub returns-in-At-clause-means : goal.returns-in-At-clause-means
 returns-in-At-clause-means c = λ sets file opens rest params more e g p q n.
-    call_at c.args.names.now sets c.args.h c.args.m.now params file c.args.slots.now.items rest opens more c.args.count c.in-At.close c.args.m.now e g p q (c.in-At.ensures sets)
+    call_at c.args.names.now sets c.args.h c.args.m.now params file c.args.slots.now.items rest opens more c.args.count c.in-At.close c.args.m.now e g p q (c.in-At.ensures.closed sets)
 
 pub returns-in-Missing-clause-means : goal.returns-in-Missing-clause-means
 returns-in-Missing-clause-means c = λ sets file opens rest params more e g p q n.
-    (c.args.h, call_missing c.args.names.now sets c.args.h c.args.m.now params c.args.slots.now.items rest opens more e g (c.in-Missing.ensures sets))
+    (c.args.h, call_missing c.args.names.now sets c.args.h c.args.m.now params c.args.slots.now.items rest opens more e g (c.in-Missing.ensures.closed sets))
 
 pub returns-then-finished-clause-means : goal.returns-then-finished-clause-means
 returns-then-finished-clause-means c = λ sets file opens rest params more e g p q n.
-    (c.args.h, call_open c.args.names.now sets c.args.h c.args.m.now params c.args.slots.now.items rest opens more e g (n c.if-finished.true) (c.in-NotYet.ensures sets))
+    (c.args.h, call_open c.args.names.now sets c.args.h c.args.m.now params c.args.slots.now.items rest opens more e g (n c.if-finished.true) (c.in-NotYet.ensures.closed sets))
 
 pub returns-else-finished-clause-wanting : goal.returns-else-finished-clause-wanting
 returns-else-finished-clause-wanting c = λ sets opens rest params e g.
-    open_wanting c.args.names.now sets c.args.h c.args.m.now params c.args.finished c.args.slots.now.items rest opens e g c.if-finished.false (c.in-NotYet.ensures sets)
+    open_wanting c.args.names.now sets c.args.h c.args.m.now params c.args.finished c.args.slots.now.items rest opens e g c.if-finished.false (c.in-NotYet.ensures.closed sets)

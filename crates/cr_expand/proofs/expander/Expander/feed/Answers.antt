@@ -9,7 +9,7 @@ returns-in-Ok-clause-fed c =
     let now : Machine = record old { slots = c.put_back.new.slots } in
     record {
       gives = λ names macros more. fed_gives names macros old now c.args.tokens.now more c.in-Ok.ensures refl refl refl refl;
-      running = λ names macros r t. fed_runs names macros old now c.args.self.now.fault (fed_machine names macros old now c.args.tokens.now c.in-Ok.ensures refl refl refl refl refl t) r;
+      running = λ names macros r t. fed_runs names macros old now c.args.self.now.search c.args.self.now.fault c.args.tokens.now c.in-Ok.ensures (fed_machine names macros old now c.args.tokens.now c.in-Ok.ensures refl refl refl refl refl t) r;
       seen = refl;
       used = refl;
       same = (refl, refl, refl, refl);

@@ -5,13 +5,16 @@ use Rattle.cr_expand.proofs.machine.Machine.next.Goals as goal
 
 pub returns-in-Some-clause-step : goal.returns-in-Some-clause-step
 returns-in-Some-clause-step c = λ more q.
-    step_after c.args.names.now c.loop-step.names c.turn.new.names c.args.macros.now c.args.self.now c.loop-step.self c.turn.new.self c.in-Some.step c.loop-step.invariant (subst (λ o. IsTurnWanted c.loop-step.names c.turn.new.names c.args.macros.now c.loop-step.self c.turn.new.self o) c.in-Some.is c.in_ok-step.ensures.wanted) more q (subst (λ o. IsTurnStep c.loop-step.names c.turn.new.names c.args.macros.now c.loop-step.self c.turn.new.self more o) c.in-Some.is (c.in_ok-step.ensures.step more (λ f. q (sym c.loop-step.invariant.same.3 ∙ f))))
+    step_after c.args.names.now c.loop-step.names c.turn.new.names c.args.macros.now c.args.self.now c.loop-step.self c.turn.new.self c.in-Some.step c.loop-step.invariant.silent (subst (λ o. IsTurnWanted c.loop-step.names c.turn.new.names c.args.macros.now c.loop-step.self c.turn.new.self o) c.in-Some.is c.in_ok-step.ensures.wanted) more q (subst (λ o. IsTurnStep c.loop-step.names c.turn.new.names c.args.macros.now c.loop-step.self c.turn.new.self more o) c.in-Some.is (c.in_ok-step.ensures.step more (λ f. q (sym c.loop-step.invariant.silent.same.3 ∙ f))))
 
 pub returns-in-Some-clause-wanted : goal.returns-in-Some-clause-wanted
-returns-in-Some-clause-wanted c = wanted_after c.args.names.now c.loop-step.names c.turn.new.names c.args.macros.now c.args.self.now c.loop-step.self c.in-Some.step c.loop-step.invariant (subst (λ o. IsTurnWanted c.loop-step.names c.turn.new.names c.args.macros.now c.loop-step.self c.turn.new.self o) c.in-Some.is c.in_ok-step.ensures.wanted)
+returns-in-Some-clause-wanted c = wanted_after c.args.names.now c.loop-step.names c.turn.new.names c.args.macros.now c.args.self.now c.loop-step.self c.in-Some.step c.loop-step.invariant.silent (subst (λ o. IsTurnWanted c.loop-step.names c.turn.new.names c.args.macros.now c.loop-step.self c.turn.new.self o) c.in-Some.is c.in_ok-step.ensures.wanted)
 
 pub loop-step-preserved : goal.loop-step-preserved
-loop-step-preserved c =
-    silent_more c.args.names.now c.loop-step.names c.turn.new.names c.args.macros.now c.args.self.now c.loop-step.self c.turn.new.self c.loop-step.invariant
-    (λ more q. subst (λ o. IsTurnStep c.loop-step.names c.turn.new.names c.args.macros.now c.loop-step.self c.turn.new.self more o) c.in_default.is (c.in_ok-step.ensures.step more q))
-    (subst (λ o. IsTurnWanted c.loop-step.names c.turn.new.names c.args.macros.now c.loop-step.self c.turn.new.self o) c.in_default.is c.in_ok-step.ensures.wanted) c.in_ok-step.ensures.machine c.in_ok-step.ensures.same
+loop-step-preserved c = record {
+  silent =
+      silent_more c.args.names.now c.loop-step.names c.turn.new.names c.args.macros.now c.args.self.now c.loop-step.self c.turn.new.self c.loop-step.invariant.silent
+      (λ more q. subst (λ o. IsTurnStep c.loop-step.names c.turn.new.names c.args.macros.now c.loop-step.self c.turn.new.self more o) c.in_default.is (c.in_ok-step.ensures.step more q))
+      (subst (λ o. IsTurnWanted c.loop-step.names c.turn.new.names c.args.macros.now c.loop-step.self c.turn.new.self o) c.in_default.is c.in_ok-step.ensures.wanted) c.in_ok-step.ensures.machine c.in_ok-step.ensures.same;
+  search = c.in_ok-step.ensures.search;
+}
