@@ -280,21 +280,22 @@ const LINES: [&[u8]; 7] = [
     b"# define D ~( a ) a a",
 ];
 
+const EXPANSIONS: [(&[u8], &[u8], u32); 10] = [
+    (b"f ( 2 ) ( 9 )", b"2 * 9 * g End", 13),
+    (b"S ( a  \"b\\n\" )", b"\"a \\\"b\\\\n\\\"\" End", 2),
+    (b"E ( 1 )", b"p ( 1 ) End", 5),
+    (b"E ( 1 , 2 )", b"p ( 1 , 2 ) End", 7),
+    (b"C ( - , > )", b"-> End", 2),
+    (b"C ( + , / )", b"BadPaste", 0),
+    (b"C ( 1 )", b"ArgCount", 0),
+    (b"C ( 1", b"OpenCall", 0),
+    (b"Q ( ) D ( Q ( ) 1 )", b"1 1 End", 5),
+    (b"__LINE__ __FILE__", b"1 \"a.c\" End", 4),
+];
+
 #[test]
 fn a_list_gives_its_expansion(rt: HostRuntime) -> Result<(), Fail> {
-    let cases: [(&[u8], &[u8], u32); 10] = [
-        (b"f ( 2 ) ( 9 )", b"2 * 9 * g End", 13),
-        (b"S ( a  \"b\\n\" )", b"\"a \\\"b\\\\n\\\"\" End", 2),
-        (b"E ( 1 )", b"p ( 1 ) End", 5),
-        (b"E ( 1 , 2 )", b"p ( 1 , 2 ) End", 7),
-        (b"C ( - , > )", b"-> End", 2),
-        (b"C ( + , / )", b"BadPaste", 0),
-        (b"C ( 1 )", b"ArgCount", 0),
-        (b"C ( 1", b"OpenCall", 0),
-        (b"Q ( ) D ( Q ( ) 1 )", b"1 1 End", 5),
-        (b"__LINE__ __FILE__", b"1 \"a.c\" End", 4),
-    ];
-    for (list, want, work) in cases {
+    for (list, want, work) in EXPANSIONS {
         let (out, used) = expanded(rt.alloc(), &LINES, list, true)?;
         assert!(rt; out.as_slice() == want, "{list:?} {out:?}");
         assert!(rt; used == work, "{list:?} {used}");
@@ -318,43 +319,45 @@ const EXAMPLE: [&[u8]; 12] = [
     b"# define str ~( x ) # x",
 ];
 
+const RESULTS: [(&[u8], &[u8]); 4] = [
+    (
+        b"f ( y + 1 ) + f ( f ( z ) ) % t ( t ( g ) ( 0 ) + t ) ( 1 ) ;",
+        b"f ( 2 * ( y + 1 ) ) + f ( 2 * ( f ( 2 * ( z [ 0 ] ) ) ) ) % f ( 2 * ( 0 ) ) + t ( 1 ) ; End",
+    ),
+    (
+        b"g ( x + ( 3 , 4 ) - w ) | h 5 ) & m ( f ) ^ m ( m ) ;",
+        b"f ( 2 * ( 2 + ( 3 , 4 ) - 0 , 1 ) ) | f ( 2 * ( ~ 5 ) ) & f ( 2 * ( 0 , 1 ) ) ^ m ( 0 , 1 ) ; End",
+    ),
+    (
+        b"p ( ) i [ q ( ) ] = { q ( 1 ) , r ( 2 , 3 ) , r ( 4 , ) , r ( , 5 ) , r ( , ) } ;",
+        b"int i [ ] = { 1 , 23 , 4 , 5 , } ; End",
+    ),
+    (
+        b"char c [ 2 ] [ 6 ] = { str ( hello ) , str ( ) } ;",
+        b"char c [ 2 ] [ 6 ] = { \"hello\" , \"\" } ; End",
+    ),
+];
+
 #[test]
 fn the_standards_example_gives_its_result(rt: HostRuntime) -> Result<(), Fail> {
-    let cases: [(&[u8], &[u8]); 4] = [
-        (
-            b"f ( y + 1 ) + f ( f ( z ) ) % t ( t ( g ) ( 0 ) + t ) ( 1 ) ;",
-            b"f ( 2 * ( y + 1 ) ) + f ( 2 * ( f ( 2 * ( z [ 0 ] ) ) ) ) % f ( 2 * ( 0 ) ) + t ( 1 ) ; End",
-        ),
-        (
-            b"g ( x + ( 3 , 4 ) - w ) | h 5 ) & m ( f ) ^ m ( m ) ;",
-            b"f ( 2 * ( 2 + ( 3 , 4 ) - 0 , 1 ) ) | f ( 2 * ( ~ 5 ) ) & f ( 2 * ( 0 , 1 ) ) ^ m ( 0 , 1 ) ; End",
-        ),
-        (
-            b"p ( ) i [ q ( ) ] = { q ( 1 ) , r ( 2 , 3 ) , r ( 4 , ) , r ( , 5 ) , r ( , ) } ;",
-            b"int i [ ] = { 1 , 23 , 4 , 5 , } ; End",
-        ),
-        (
-            b"char c [ 2 ] [ 6 ] = { str ( hello ) , str ( ) } ;",
-            b"char c [ 2 ] [ 6 ] = { \"hello\" , \"\" } ; End",
-        ),
-    ];
-    for (list, want) in cases {
+    for (list, want) in RESULTS {
         let (out, _) = expanded(rt.alloc(), &EXAMPLE, list, true)?;
         assert!(rt; out.as_slice() == want, "{list:?} {out:?}");
     }
     Ok(())
 }
 
+const CUT_LISTS: [(&[u8], &[u8]); 5] = [
+    (b"C ( 1", b"Hungry"),
+    (b"f", b"Hungry"),
+    (b"a", b"a Hungry"),
+    (b"D ( a ) f", b"a a Hungry"),
+    (b"D ( C ( 1 )", b"Hungry"),
+];
+
 #[test]
 fn more_is_wanted_before_the_end(rt: HostRuntime) -> Result<(), Fail> {
-    let cases: [(&[u8], &[u8]); 5] = [
-        (b"C ( 1", b"Hungry"),
-        (b"f", b"Hungry"),
-        (b"a", b"a Hungry"),
-        (b"D ( a ) f", b"a a Hungry"),
-        (b"D ( C ( 1 )", b"Hungry"),
-    ];
-    for (list, want) in cases {
+    for (list, want) in CUT_LISTS {
         let (out, _) = expanded(rt.alloc(), &LINES, list, false)?;
         assert!(rt; out.as_slice() == want, "{list:?} {out:?}");
     }
