@@ -174,7 +174,7 @@ module _ (w v : World) (a : Agrees w v) where
             other : Task Nothing
             other =
                 cond (bytes_eq word (codes "undef")) (undefines hash (undefined_name ts)) (cond (bytes_eq word (codes "pragma")) (pragma path ts)
-                (cond (bytes_eq word (codes "line") || bytes_eq word (codes "warning")) (tell (all_marks role.Directive ts)) (cond (bytes_eq word (codes "ident")) ready (cond (bytes_eq word (codes "error")) (ends (Ill cause.ErrorDirective hash)) (ends (Ill cause.BadDirective hash))))))
+                (cond (bytes_eq word (codes "line") || bytes_eq word (codes "warning")) (tell (all_marks role.Directive ts)) (cond (bytes_eq word (codes "ident")) ready (cond (bytes_eq word (codes "error")) (tell (all_marks role.Directive ts) >>> λ d. ends (Ill cause.ErrorDirective hash)) (ends (Ill cause.BadDirective hash))))))
 
       grows_directive : (path : Text) (hash : Place) (word : Text) (ts : List Token) → Grows (directive w u enter path hash word ts) (directive v u enter1 path hash word ts)
       grows_directive path hash word ts =

@@ -255,6 +255,10 @@ roles_in_directives : roles (preprocessed (world (one_file (codes "#define f(a) 
 unfolding preprocessed expand is_built_in lexed cells cut longest part_of token_kind one.is_punctuator one.punctuators unsigned_suffixes plain_suffixes
 roles_in_directives = refl
 
+roles_on_an_error_line : roles (preprocessed (world (one_file (codes "#error e x" ∷ []))) the_unit) ≡ (1, Directive) ∷ (7, Directive) ∷ (9, Directive) ∷ []
+unfolding preprocessed expand is_built_in lexed cells cut longest part_of token_kind one.is_punctuator one.punctuators unsigned_suffixes plain_suffixes
+roles_on_an_error_line = refl
+
 roles_in_a_call : roles (preprocessed (world (one_file (codes "#define f(a) 1" ∷ codes "f(g)" ∷ []))) the_unit) ≡ (1, Directive) ∷ (8, Directive) ∷ (10, Param) ∷ (15, MacroName) ∷ (17, Dropped) ∷ []
 unfolding preprocessed expand is_built_in lexed cells cut longest part_of token_kind one.is_punctuator one.punctuators unsigned_suffixes plain_suffixes
 roles_in_a_call = refl

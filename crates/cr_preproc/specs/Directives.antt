@@ -137,7 +137,7 @@ plain_directive w u enter path hash word ts =
     else if bytes_eq word (codes "pragma") then pragma path ts
     else if bytes_eq word (codes "line") || bytes_eq word (codes "warning") then tell (all_marks Directive ts)
     else if bytes_eq word (codes "ident") then ready
-    else if bytes_eq word (codes "error") then ends (Ill cause.ErrorDirective hash)
+    else if bytes_eq word (codes "error") then (tell (all_marks Directive ts) >>> λ d. ends (Ill cause.ErrorDirective hash))
     else ends (Ill cause.BadDirective hash)
 
 -- a live directive by its word; that `line`, `warning` and `ident` have no effect is an own rule of this project

@@ -19,7 +19,7 @@ by_order w u enter path hash ts order.Undef = undefines hash (undefined_name ts)
 by_order w u enter path hash ts order.Pragma = pragma path ts
 by_order w u enter path hash ts order.Named = tell (all_marks role.Directive ts)
 by_order w u enter path hash ts order.Nothing = ready
-by_order w u enter path hash ts order.Error = ends (Ill cause.ErrorDirective hash)
+by_order w u enter path hash ts order.Error = tell (all_marks role.Directive ts) >>> λ d. ends (Ill cause.ErrorDirective hash)
 by_order w u enter path hash ts order.Unknown = ends (Ill cause.BadDirective hash)
 
 -- A directive with this word does what the order says.

@@ -169,7 +169,7 @@ module _ (r : Renaming) (not_reserved : is_reserved r.new ≡ false) (keeps_expa
   -- each word does what it does
   abbrev chosen : Bool → Bool → Bool → Bool → Bool → Bool → Task Nothing → Task Nothing → Task Nothing → Task Nothing → Place → Task Nothing
   chosen include undef pragma1 line ident error m n p q hash =
-      cond include m (cond undef n (cond pragma1 p (cond line q (cond ident ready (cond error (ends (Ill cause.ErrorDirective hash)) (ends (Ill cause.BadDirective hash)))))))
+      cond include m (cond undef n (cond pragma1 p (cond line q (cond ident ready (cond error (q >>> λ d. ends (Ill cause.ErrorDirective hash)) (ends (Ill cause.BadDirective hash)))))))
 
   sim_chosen : (hash hash1 : Place) (a b c d e f : Bool) (m n p q m1 n1 p1 q1 : Task Nothing) → Sim r same m m1 → Sim r same n n1 → Sim r same p p1 → Sim r same q q1 → Sim r same (chosen a b c d e f m n p q hash) (chosen a b c d e f m1 n1 p1 q1 hash1)
   sim_chosen hash hash1 true b c d e f m n p q m1 n1 p1 q1 h i j k = h
@@ -177,7 +177,8 @@ module _ (r : Renaming) (not_reserved : is_reserved r.new ≡ false) (keeps_expa
   sim_chosen hash hash1 false false true d e f m n p q m1 n1 p1 q1 h i j k = j
   sim_chosen hash hash1 false false false true e f m n p q m1 n1 p1 q1 h i j k = k
   sim_chosen hash hash1 false false false false true f m n p q m1 n1 p1 q1 h i j k = sim_only r same Done
-  sim_chosen hash hash1 false false false false false true m n p q m1 n1 p1 q1 h i j k = sim_ends r same (Ill cause.ErrorDirective hash) (ends (Ill cause.ErrorDirective hash1))
+  sim_chosen hash hash1 false false false false false true m n p q m1 n1 p1 q1 h i j k =
+      sim_then r same same q q1 (λ d. ends (Ill cause.ErrorDirective hash)) (λ d. ends (Ill cause.ErrorDirective hash1)) k (λ d. sim_ends r same (Ill cause.ErrorDirective hash) (ends (Ill cause.ErrorDirective hash1)))
   sim_chosen hash hash1 false false false false false false m n p q m1 n1 p1 q1 h i j k = sim_ends r same (Ill cause.BadDirective hash) (ends (Ill cause.BadDirective hash1))
 
   sim_plain : (path : Text) (hash hash1 : Place) (word : Text) (ts : List Token) → AreSame r ts → Sim r same (plain_directive w u enter path hash word ts) (plain_directive v u enter1 path hash1 word (all_renamed r ts))

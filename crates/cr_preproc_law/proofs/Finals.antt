@@ -356,7 +356,9 @@ module _ (test : Origin → Bool) (made_passes : test Made ≡ true) where
             (keeps_if Any (bytes_eq word (codes "pragma")) (pragma path ts) _ (keeps_pragma path ts)
             (keeps_if Any (bytes_eq word (codes "line") || bytes_eq word (codes "warning")) (tell (all_marks role.Directive ts)) _ (keeps_tell (all_marks role.Directive ts) (all_marks_pass role.Directive ts))
             (keeps_if Any (bytes_eq word (codes "ident")) ready _ (keeps_only Any Done tt)
-            (keeps_if Any (bytes_eq word (codes "error")) (ends (Ill cause.ErrorDirective hash)) (ends (Ill cause.BadDirective hash)) (keeps_ends Any (Ill cause.ErrorDirective hash)) (keeps_ends Any (Ill cause.BadDirective hash)))))))
+            (keeps_if Any (bytes_eq word (codes "error")) (tell (all_marks role.Directive ts) >>> λ d. ends (Ill cause.ErrorDirective hash)) (ends (Ill cause.BadDirective hash))
+            (keeps_then Any Any (tell (all_marks role.Directive ts)) (λ d. ends (Ill cause.ErrorDirective hash)) (keeps_tell (all_marks role.Directive ts) (all_marks_pass role.Directive ts)) (λ d x. keeps_ends Any (Ill cause.ErrorDirective hash)))
+            (keeps_ends Any (Ill cause.BadDirective hash)))))))
 
         keeps_directive : (path : Text) (hash : Place) (word : Text) (ts : List Token) → (bytes_eq word (codes "define") ≡ true → AllPass test ts) → Keeps Any (directive w u enter path hash word ts)
         keeps_directive path hash word ts h = go (bytes_eq word (codes "define")) h where
