@@ -4,6 +4,7 @@ use Rattle.std.proofs.Common.{nat_lt, ◌≡◌, ℕ, ◌+◌, ◌<◌, Bool, tr
 use Rattle.std.specs.Prelude.{bytes_eq, if◌then◌else◌}
 use Rattle.std.specs.List.{position, position_or_len}
 use Rattle.std.specs.Map.{lookup, keys_of, values_of}
+use Rattle.std.proofs.lemmas.List.{length-map}
 use Rattle.cr_snapshot.specs.declared.known.KnownFile.{KnownFile}
 use Rattle.cr_snapshot.specs.Files.{Finding, Unknown, told, finding_from, finding}
 use Rattle.cr_snapshot.specs.Tables.{IsKeyed}
@@ -77,3 +78,20 @@ pub IsKeyed-push : {V : Type 0} (bytes_of : V → List ℕ) (es : List (V × Kno
 IsKeyed-push bytes_of es k file same keyed =
     map_push (λ e. bytes_of e.0) es (k, file) ∙ ap (λ l. l ++ bytes_of k ∷ []) keyed ∙ ap (λ p. map (λ e. e.1.path) es ++ p ∷ []) same
     ∙ sym (map_push (λ e. e.1.path) es (k, file))
+
+-- the place of a path among the keys is that among the files
+pub position-keyed : {V : Type 0} (bytes_of : V → List ℕ) (path : List ℕ) (es : List (V × KnownFile)) → IsKeyed bytes_of es
+    → position (λ k. bytes_eq path (bytes_of k)) (keys_of es) ≡ position (λ file. bytes_eq path file.path) (values_of es)
+position-keyed {V} bytes_of path es keyed =
+    by (position_or_len (λ k. bytes_eq path (bytes_of k)) (keys_of es)) (position_or_len (λ file. bytes_eq path file.path) (values_of es)) (length (keys_of es)) (length (values_of es))
+    (place es keyed) (length-map es (λ e. e.0) ∙ sym (length-map es (λ e. e.1)))
+  where
+    by : (a b m n : ℕ) → a ≡ b → m ≡ n → (if nat_lt a m then Some a else None) ≡ (if nat_lt b n then Some b else None)
+    by a b m n h k = rw (h, k) refl
+
+    place : (es : List (V × KnownFile)) → IsKeyed bytes_of es → position_or_len (λ k. bytes_eq path (bytes_of k)) (keys_of es) ≡ position_or_len (λ file. bytes_eq path file.path) (values_of es)
+    place [] k = refl
+    place (e ∷ es) k =
+        let same : bytes_of e.0 ≡ e.1.path = cc in
+        let rest : IsKeyed bytes_of es = cc in
+        rw (ap (λ p. bytes_eq path p) same, place es rest) refl

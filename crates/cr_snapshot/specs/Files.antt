@@ -1,5 +1,6 @@
 -- The files that are known, as a list in the order of their numbers: own rule of this project.
 use Rattle.std.specs.Prelude.{◌≡◌, ◌≤◌, ◌<◌, ◌+◌, slice_get, ℕ, Bool, ◌||◌, List, [], ◌∷◌, ◌++◌, length, map, sum_by, nat_lt, bytes_eq, Option, Some, None, if◌then◌else◌}
+use Rattle.std.specs.List.{AllByRecursion}
 use Rattle.cr_base.specs.Path.{apart_path}
 use Rattle.cr_snapshot.specs.declared.known.KnownFile.{KnownFile}
 use Rattle.cr_snapshot.specs.declared.header.Header.{Header}
@@ -73,6 +74,7 @@ pub record IsWithin (files : List KnownFile) : Type 0 where
   pub bytes : present_bytes files ≤ 536870912
   pub known : known_paths files ≤ 4194304
   pub apart : apart_paths files ≤ 65536
+  pub sizes : AllByRecursion (λ file. size file.found ≤ 16777216) files
 
 -- A file whose path was unknown is told by its path afterwards, with the next number.
 abbrev pub TellsTheNewFile : Type 0

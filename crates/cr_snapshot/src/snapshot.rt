@@ -1,5 +1,5 @@
 //! The files that a run knows, and what each path holds.
-ghost use Rattle.std.specs.Prelude.{◌≡◌, ◌++◌, ◌∷◌, ◌<◌, [], length, slice_get, Err, true, IsTrue, IfOk, OnOk, OnErr, Some};
+ghost use Rattle.std.specs.Prelude.{◌≡◌, ◌≤◌, ◌++◌, ◌∷◌, ◌<◌, ℕ, List as ListOf, [], length, slice_get, position, bytes_eq, Err, true, IsTrue, IfOk, OnOk, OnErr, Some};
 ghost use Rattle.std.specs.Option.{option_map};
 ghost use Rattle.indexmap.specs.IndexMap.{values};
 ghost use Rattle.cr_snapshot.specs.Files as spec;
@@ -131,13 +131,24 @@ impl Snapshot {
         Ok(PathNo(n as u32))
     }
 
-    /// What is known of a path.
+    /// What is known of a path. A file that is there has at most 16,777,216 bytes.
     pub fn get(&self, path: &PathText) -> Found<'_>
-        ensures { finding_of result ≡ spec.finding path.now self.now }
+        ensures found { finding_of result ≡ spec.finding path.now self.now }
+        ensures small { (n : ℕ) (bytes : ListOf ℕ) → spec.finding path.now self.now ≡ spec.Present n bytes → length bytes ≤ 16777216 }
     {
         match self.files.get_index_of(path.bytes()) {
             None => Found::Unknown,
             Some(n) => told(PathNo(n as u32), self.file_at(n)),
+        }
+    }
+
+    /// The number of a path, where it is known.
+    pub fn number(&self, path: &PathText) -> Option<PathNo>
+        ensures { option_map (λ n. n.0) result ≡ position (λ file. bytes_eq path.now file.path) self.now }
+    {
+        match self.files.get_index_of(path.bytes()) {
+            None => None,
+            Some(n) => Some(PathNo(n as u32)),
         }
     }
 

@@ -136,6 +136,9 @@ fn built_in_headers_are_known_at_first(rt: HostRuntime) -> Result<(), Fail> {
         assert_eq!(rt; found.as_slice(), *text);
     }
     assert_eq!(rt; snapshot.path(PathNo(9)).bytes(), b"//assert.h".as_slice());
+    let last = PathText::apart(alloc, b"assert.h")?;
+    assert_eq!(rt; snapshot.number(&last), Some(PathNo(9)));
+    assert_eq!(rt; snapshot.number(&path(alloc, b"assert.h")?), None);
     Ok(())
 }
 
