@@ -4,8 +4,9 @@ ghost use Rattle.cr_macros.specs.declared.fault.ExpandFault.{ExpandFault as TheF
 ghost use Rattle.cr_macros.specs.Tokens.{Text, Token};
 ghost use Rattle.cr_macros.specs.MacroTables.{Macros};
 ghost use Rattle.cr_expand.specs.Held.{Faults};
+ghost use Rattle.cr_expand.specs.Ahead.{NextFollowsTheRules};
 ghost use Rattle.cr_expand.specs.Feeding.{IsPutBack};
-ghost use Rattle.cr_expand.specs.Machines.{AreMacros, IsStep, IsWantedAt, IsSameRun};
+ghost use Rattle.cr_expand.specs.Machines.{AreMacros, IsStep, IsAhead, IsWantedAt, IsSameRun, ahead};
 ghost use Rattle.cr_expand.specs.Expanders.{left_over, IsRunning, IsFresh, IsFed, Steps, GivesTheExpansion};
 
 use crate::closing::Search;
@@ -108,6 +109,8 @@ impl Expander {
         ensures step { self.old.fault ≡ None → IfOk result (λ s. Steps names.old names.new macros.now self.old self.new s) }
         ensures wanted { self.old.fault ≡ None → IfOk result (λ s. IsWantedAt names.old macros.now self.old.machine s) }
         ensures faults { self.old.fault ≡ None → (more : List Token) → (self.old.machine.finished ≡ true → more ≡ []) → IfErr result (λ e. Faults (left_over names.old macros.now self.old more) e) }
+        ensures ahead { self.old.fault ≡ None → (more : List Token) → (self.old.machine.finished ≡ true → more ≡ []) → IfOk result (λ s. IsAhead names.old names.new macros.now self.old.machine self.new.machine more s) }
+        ensures ahead_faults { self.old.fault ≡ None → (more : List Token) → (self.old.machine.finished ≡ true → more ≡ []) → IfErr result (λ e. Faults (ahead names.old macros.now self.old.machine more) e) }
         ensures kept { IfErr result (λ e. self.new.fault ≡ Some e) }
         ensures stuck { (fault : TheFault) → self.old.fault ≡ Some fault → (result ≡ Err fault) × (self.new ≡ self.old) × (names.new ≡ names.old) }
         ensures running { IsRunning names.new macros.now self.new }
@@ -153,4 +156,10 @@ impl Expander {
 /// and used their macro work. It does no work.
 pub fn expansion_is_however_it_is_fed()
     ensures { GivesTheExpansion }
+{}
+
+/// The law that the next token of an expansion's result is what the rules of expansion say of it
+/// (C11 6.10.3): the uses up to the first that gives a token of the result. It does no work.
+pub fn the_next_token_follows_the_rules()
+    ensures { NextFollowsTheRules }
 {}

@@ -17,7 +17,7 @@ ghost use Rattle.cr_expand.specs.Slots.{tokens, AreSlotsKnown};
 ghost use Rattle.cr_expand.specs.Calls.{IsCallAt, IsSearched};
 ghost use Rattle.cr_expand.specs.HideSets.{Grows};
 ghost use Rattle.cr_expand.specs.Wanted.{is_marked_whole};
-ghost use Rattle.cr_expand.specs.Machines.{IsGiven, IsPut, IsSameRun, IsSameElsewhere, IsPredefinedUse, IsClosedAt, IsEntered, IsCallHeld, IsMachine, IsArgumentEnd, IsArgumentFault, BeginsWithEnd, AreMacros, put_for_call, AreTaken, IsMiscounted, IsTurnStep, IsTurnWanted, IsStep, IsWantedAt, still};
+ghost use Rattle.cr_expand.specs.Machines.{IsGiven, IsPut, IsSameRun, IsSameElsewhere, IsPredefinedUse, IsClosedAt, IsEntered, IsCallHeld, IsMachine, IsArgumentEnd, IsArgumentFault, BeginsWithEnd, AreMacros, put_for_call, AreTaken, IsMiscounted, IsTurnStep, IsTurnWanted, IsStep, IsAhead, BothFault, IsWantedAt};
 
 use crate::closing::Search;
 use crate::frame::Frame;
@@ -329,7 +329,7 @@ impl Machine {
         requires search { IsSearched names.old self.old.slots.items search.old }
         ensures step { (more : List Token) → (self.old.finished ≡ true → more ≡ []) → IfOk result (λ o. IsTurnStep names.old names.new macros.now self.old self.new more o) }
         ensures wanted { IfOk result (λ o. IsTurnWanted names.old names.new macros.now self.old self.new o) }
-        ensures faults { (more : List Token) → (self.old.finished ≡ true → more ≡ []) → IfErr result (λ e. Faults (still names.old macros.now self.old more) e) }
+        ensures faults { (more : List Token) → (self.old.finished ≡ true → more ≡ []) → IfErr result (λ e. BothFault names.old macros.now self.old more e) }
         ensures machine { OnOk result (IsMachine names.new macros.now self.new) }
         ensures search { OnOk result (IsSearched names.new self.new.slots.items search.new) }
         ensures grows { OnOk result (Grows names.old names.new) }
@@ -389,8 +389,9 @@ impl Machine {
         requires machine { IsMachine names.old macros.now self.old }
         requires search { IsSearched names.old self.old.slots.items search.old }
         ensures step { (more : List Token) → (self.old.finished ≡ true → more ≡ []) → IfOk result (λ s. IsStep names.old names.new macros.now self.old self.new more s) }
+        ensures ahead { (more : List Token) → (self.old.finished ≡ true → more ≡ []) → IfOk result (λ s. IsAhead names.old names.new macros.now self.old self.new more s) }
         ensures wanted { IfOk result (λ s. IsWantedAt names.old macros.now self.old s) }
-        ensures faults { (more : List Token) → (self.old.finished ≡ true → more ≡ []) → IfErr result (λ e. Faults (still names.old macros.now self.old more) e) }
+        ensures faults { (more : List Token) → (self.old.finished ≡ true → more ≡ []) → IfErr result (λ e. BothFault names.old macros.now self.old more e) }
         ensures machine { OnOk result (IsMachine names.new macros.now self.new) }
         ensures search { OnOk result (IsSearched names.new self.new.slots.items search.new) }
         ensures grows { OnOk result (Grows names.old names.new) }

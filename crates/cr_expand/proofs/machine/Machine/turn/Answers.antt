@@ -11,9 +11,9 @@ use Rattle.cr_expand.proofs.Looked.{found_known, found_short, keys_known}
 use Rattle.cr_expand.proofs.Nexts.{next_stays, next_predefined, next_object, next_call, next_end, next_unclosed}
 use Rattle.cr_expand.proofs.Steps.{same_sets, keeps, predefines}
 use Rattle.cr_expand.proofs.Calling.{objects, object_faults}
-use Rattle.cr_expand.proofs.Arguments.{unclosed, predefined_fault, miscounts, enters}
-use Rattle.cr_expand.proofs.TurnSteps.{head_known, closed_at, is_more, put_from, ended_step, ended_fault, ended_machine, ended_grows, ended_smaller, entered_machine, entered_smaller}
-use Rattle.cr_expand.proofs.Wants.{next_finish, no_calls, end_gives, wanting_end, wanting_hungry, ended_wanted, entered_wanted}
+use Rattle.cr_expand.proofs.Arguments.{unclosed, predefined_fault, miscounts}
+use Rattle.cr_expand.proofs.TurnSteps.{head_known, closed_at, is_more, put_from, ended_step, ended_fault, ended_machine, ended_grows, ended_smaller, entered_step, entered_machine, entered_smaller}
+use Rattle.cr_expand.proofs.Wants.{next_finish, no_calls, end_gives, end_ahead, wanting_end, wanting_hungry, ended_wanted, entered_wanted}
 use Rattle.cr_macros.specs.MacroTables.{table_of}
 use Rattle.cr_expand.specs.Slots.{ends}
 use Rattle.cr_expand.proofs.Keeping.{gives_machine, object_machine}
@@ -167,7 +167,7 @@ returns-in_ok-enter-in-Call-clause-step c = λ more q.
     let u = next_call c.args.names.now c.args.self.now.sets c.args.macros.now (text_of c.args.names.now c.args.self.now.file) more c.args.self.now.slots.items c.in-Call.h c.in-Call.m c.in-Call.count c.in-Call.close (c.in-Call.ensures.means (text_of c.args.names.now c.args.self.now.file) more q) in
     let i = c.in_ok-enter-in-Call.ensures.entered (slot.Token c.in-Call.h) (slot.Token u.0.opens) u.0.inside u.0.closes u.0.rest u.0.params u.0.slots_are u.0.place u.0.macro_params u.0.counts in
     let e = c.in_ok-enter-in-Call.ensures.same in
-    (enters c.args.names.now c.args.names.now c.args.macros.now c.args.self.now c.enter.new.self more c.requires.machine c.requires.macros (grows_same c.args.names.now) i.sets_grow e.0.2 c.expansion_follows_the_rules.ensures c.in-Call.h c.in-Call.m.now c.in-Call.count c.in-Call.close u.0 u.1 i refl (ap (λ x. LIMIT - x) e.2), e.1)
+    entered_step c.args.names.now c.args.macros.now c.args.self.now c.enter.new.self more c.requires.machine c.requires.macros c.expansion_follows_the_rules.ensures c.in-Call.h c.in-Call.m.now c.in-Call.count c.in-Call.close u.0 u.1 i e.0.2 e.2 e.1
 
 pub returns-in_ok-enter-in-Call-clause-machine : goal.returns-in_ok-enter-in-Call-clause-machine
 returns-in_ok-enter-in-Call-clause-machine c =
@@ -185,8 +185,10 @@ returns-in_ok-enter-in-Call-clause-smaller c = λ _.
 pub returns-in-End-clause-step : goal.returns-in-End-clause-step
 returns-in-End-clause-step c = λ more q.
     let e = next_finish c.args.names.now c.args.self.now.sets c.args.macros.now (text_of c.args.names.now c.args.self.now.file) more c.args.self.now.slots.items (c.in-End.ensures.means (text_of c.args.names.now c.args.self.now.file) more q) in
-    let f = wanting_end c.args.names.now c.args.self.now.sets c.args.self.now.finished c.args.self.now.slots.items (λ x. use_of (table_of c.args.names.now c.args.macros.now (text_of c.args.names.now c.args.self.now.file)) (held c.args.names.now c.args.self.now.sets x)) (c.in-End.ensures.wanting (text_of c.args.names.now c.args.self.now.file)) in
-    (refl, refl, end_gives c.expansion_follows_the_rules.ensures c.args.names.now c.args.macros.now c.args.self.now more c.requires.machine e (q f))
+    let f = wanting_end c.args.names.now c.args.self.now.sets c.args.self.now.finished c.args.self.now.slots.items (λ x. use_of (table_of c.args.names.now c.args.macros.now (text_of c.args.names.now c.args.self.now.file)) (held c.args.names.now c.args.self.now.sets x)) (c.in-End.ensures.wanting (text_of c.args.names.now c.args.self.now.file)) in (
+      (refl, refl, end_gives c.expansion_follows_the_rules.ensures c.args.names.now c.args.macros.now c.args.self.now more c.requires.machine e (q f)),
+      (refl, refl, end_ahead c.args.names.now c.args.macros.now c.args.self.now more c.requires.machine e (q f)),
+    )
 
 pub returns-in-End-clause-wanted : goal.returns-in-End-clause-wanted
 returns-in-End-clause-wanted c =
