@@ -115,6 +115,7 @@ impl Expander {
         ensures stuck { (fault : TheFault) → self.old.fault ≡ Some fault → (result ≡ Err fault) × (self.new ≡ self.old) × (names.new ≡ names.old) }
         ensures running { IsRunning names.new macros.now self.new }
         ensures fault { OnOk result (self.new.fault ≡ None) }
+        ensures limit { self.old.machine.used ≤ LIMIT → self.new.machine.used ≤ LIMIT }
     {
         if let Some(fault) = self.fault {
             return Err(fault);

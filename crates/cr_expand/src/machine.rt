@@ -128,6 +128,7 @@ impl Machine {
         ensures given { IfOk result (λ s. IsPredefinedUse names.old names.new self.old self.new h (spec_predefined_token (text_of names.old self.old.file) h.token.line p) s) }
         ensures faults { IfErr result (λ e. (e ≡ ExpandFault.OutOfMemory) ⊎ ((e ≡ ExpandFault.LimitMacros) × (LIMIT < self.old.used + 2))) }
         ensures same { OnOk result (IsSameRun self.old self.new × (self.new.sets ≡ self.old.sets)) }
+        ensures limit { self.new.used ≤ LIMIT }
     {
         let _ = self.slots.pop_front();
         self.notes.take(names, Role::MacroName, h.token)?;
@@ -160,6 +161,7 @@ impl Machine {
         ensures put { OnOk result (IsPut names.old names.new self.old self.new (put_for (held names.old self.old.sets name) (macro_text names.old m.now) (all_args names.old self.old.sets (map (λ v. v.items) raw.now)) (all_args names.old self.old.sets (map (λ v. v.items) full.now)) (hidden names.old self.old.sets hide.0)) self.old.slots.items) }
         ensures faults { IfErr result (λ e. Faults (put_for (held names.old self.old.sets name) (macro_text names.old m.now) (all_args names.old self.old.sets (map (λ v. v.items) raw.now)) (all_args names.old self.old.sets (map (λ v. v.items) full.now)) (hidden names.old self.old.sets hide.0) (LIMIT - self.old.used)) e) }
         ensures same { OnOk result (IsSameRun self.old self.new × (self.new.frames.items ≡ self.old.frames.items)) }
+        ensures limit { self.new.used ≤ LIMIT }
     {
         let list = subst(
             self.alloc,
@@ -189,6 +191,7 @@ impl Machine {
         ensures faults { IfErr result (λ e. Faults (put_for (held names.old self.old.sets h) (macro_text names.old m.now) [] [] (with_name (text_of names.old h.token.text) (hidden names.old self.old.sets h.hide.0)) (LIMIT - self.old.used)) e) }
         ensures same { OnOk result (IsSameRun self.old self.new × (self.new.frames.items ≡ self.old.frames.items)) }
         ensures more { IfOk result (λ s. s ≡ ExpStep.More) }
+        ensures limit { self.new.used ≤ LIMIT }
     {
         let _ = self.slots.pop_front();
         let hide = with_one(names, &mut self.sets, h.hide, h.token.text)?;
@@ -239,6 +242,7 @@ impl Machine {
         ensures entered { (a b : TheSlot) (inside : List TheHeld) (closes : TheHeld) (rest : List TheSlot) (params : List TheName) → self.old.slots.items ≡ a ∷ b ∷ (tokens inside ++ Slot.Token closes ∷ rest) → close ≡ 2 + length inside → m.now.params ≡ Some params → count ≡ length params → OnOk result (IsEntered names.now self.old self.new h m.now params inside closes rest) }
         ensures faults { (a b : TheSlot) (inside : List TheHeld) (closes : TheHeld) (rest : List TheSlot) (params : List TheName) → self.old.slots.items ≡ a ∷ b ∷ (tokens inside ++ Slot.Token closes ∷ rest) → close ≡ 2 + length inside → m.now.params ≡ Some params → count ≡ length params → IfErr result (λ e. IsMiscounted names.now m.now params inside h e) }
         ensures same { OnOk result (IsSameRun self.old self.new × (self.new.notes.seen.items ≡ self.old.notes.seen.items) × (self.new.used ≡ self.old.used)) }
+        ensures used { self.new.used ≡ self.old.used }
     {
         let end = token_at(&self.slots, close);
         let needs = needs_of(self.alloc, names, m, count + 1)?;
@@ -270,6 +274,7 @@ impl Machine {
         ensures put { OnOk result (IsPut names.old names.new self.old self.new (put_for_call names.old macros.now self.old.sets frame.now) self.old.slots.items) }
         ensures faults { IfErr result (λ e. Faults (put_for_call names.old macros.now self.old.sets frame.now (LIMIT - self.old.used)) e) }
         ensures same { OnOk result (IsSameRun self.old self.new × (self.new.frames.items ≡ self.old.frames.items)) }
+        ensures limit { self.new.used ≤ LIMIT }
     {
         match macros.lookup(frame.name().token.text) {
             None => unreachable!(),
@@ -300,6 +305,7 @@ impl Machine {
         ensures ended { (rest : List TheSlot) → self.old.slots.items ≡ Slot.End ∷ rest → IfOk result (λ o. IsArgumentEnd names.old names.new macros.now self.old self.new rest o) }
         ensures faults { IfErr result (λ e. IsArgumentFault names.old macros.now self.old e) }
         ensures same { OnOk result (IsSameRun self.old self.new) }
+        ensures limit { self.new.used ≤ LIMIT }
     {
         let _ = self.slots.pop_front();
         let Some(mut frame) = self.frames.pop() else {
@@ -335,6 +341,7 @@ impl Machine {
         ensures grows { OnOk result (Grows names.old names.new) }
         ensures same { OnOk result (IsSameRun self.old self.new) }
         ensures smaller { IfOk result (λ o. o ≡ None → length self.new.slots.items < length self.old.slots.items) }
+        ensures limit { self.new.used ≤ LIMIT }
     {
         expansion_follows_the_rules();
         let turn = turn_of(
@@ -396,6 +403,7 @@ impl Machine {
         ensures search { OnOk result (IsSearched names.new self.new.slots.items search.new) }
         ensures grows { OnOk result (Grows names.old names.new) }
         ensures same { OnOk result (IsSameRun self.old self.new) }
+        ensures limit { self.new.used ≤ LIMIT }
     {
         loop {
             if let Some(step) = self.turn(names, macros, search)? {
