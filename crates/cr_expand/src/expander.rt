@@ -1,5 +1,5 @@
 //! The machine of macro expansion, which is fed and stepped.
-ghost use Rattle.std.specs.Prelude.{◌≡◌, ◌<◌, ◌≤◌, ◌^◌, ◌++◌, [], List, OnOk, OnErr, IfOk, IfErr, Some, None, Err, length, map, true, false};
+ghost use Rattle.std.specs.Prelude.{◌≡◌, ◌<◌, ◌≤◌, ◌^◌, ◌+◌, ◌++◌, [], List, OnOk, OnErr, IfOk, IfErr, Some, None, Err, length, map, true, false};
 ghost use Rattle.cr_macros.specs.declared.fault.ExpandFault.{ExpandFault as TheFault};
 ghost use Rattle.cr_macros.specs.Tokens.{Text, Token};
 ghost use Rattle.cr_macros.specs.MacroTables.{Macros};
@@ -115,6 +115,7 @@ impl Expander {
         ensures stuck { (fault : TheFault) → self.old.fault ≡ Some fault → (result ≡ Err fault) × (self.new ≡ self.old) × (names.new ≡ names.old) }
         ensures running { IsRunning names.new macros.now self.new }
         ensures fault { OnOk result (self.new.fault ≡ None) }
+        ensures names { OnOk result (length names.new ≤ length names.old + 2 ^ 26) }
         ensures limit { self.old.machine.used ≤ LIMIT → self.new.machine.used ≤ LIMIT }
     {
         if let Some(fault) = self.fault {

@@ -129,6 +129,7 @@ impl Machine {
         ensures faults { IfErr result (λ e. (e ≡ ExpandFault.OutOfMemory) ⊎ ((e ≡ ExpandFault.LimitMacros) × (LIMIT < self.old.used + 2))) }
         ensures same { OnOk result (IsSameRun self.old self.new × (self.new.sets ≡ self.old.sets)) }
         ensures limit { self.new.used ≤ LIMIT }
+        ensures length { OnOk result (length names.new ≤ length names.old + 1) }
     {
         let _ = self.slots.pop_front();
         self.notes.take(names, Role::MacroName, h.token)?;
@@ -162,6 +163,7 @@ impl Machine {
         ensures faults { IfErr result (λ e. Faults (put_for (held names.old self.old.sets name) (macro_text names.old m.now) (all_args names.old self.old.sets (map (λ v. v.items) raw.now)) (all_args names.old self.old.sets (map (λ v. v.items) full.now)) (hidden names.old self.old.sets hide.0) (LIMIT - self.old.used)) e) }
         ensures same { OnOk result (IsSameRun self.old self.new × (self.new.frames.items ≡ self.old.frames.items)) }
         ensures limit { self.new.used ≤ LIMIT }
+        ensures length { OnOk result (length names.new ≤ length names.old + 2 * length m.now.body) }
     {
         let list = subst(
             self.alloc,
@@ -192,6 +194,7 @@ impl Machine {
         ensures same { OnOk result (IsSameRun self.old self.new × (self.new.frames.items ≡ self.old.frames.items)) }
         ensures more { IfOk result (λ s. s ≡ ExpStep.More) }
         ensures limit { self.new.used ≤ LIMIT }
+        ensures length { OnOk result (length names.new ≤ length names.old + 2 * length m.now.body) }
     {
         let _ = self.slots.pop_front();
         let hide = with_one(names, &mut self.sets, h.hide, h.token.text)?;
@@ -275,6 +278,7 @@ impl Machine {
         ensures faults { IfErr result (λ e. Faults (put_for_call names.old macros.now self.old.sets frame.now (LIMIT - self.old.used)) e) }
         ensures same { OnOk result (IsSameRun self.old self.new × (self.new.frames.items ≡ self.old.frames.items)) }
         ensures limit { self.new.used ≤ LIMIT }
+        ensures length { OnOk result (length names.new ≤ length names.old + 2 ^ 26) }
     {
         match macros.lookup(frame.name().token.text) {
             None => unreachable!(),
@@ -306,6 +310,7 @@ impl Machine {
         ensures faults { IfErr result (λ e. IsArgumentFault names.old macros.now self.old e) }
         ensures same { OnOk result (IsSameRun self.old self.new) }
         ensures limit { self.new.used ≤ LIMIT }
+        ensures length { OnOk result (length names.new ≤ length names.old + 2 ^ 26) }
     {
         let _ = self.slots.pop_front();
         let Some(mut frame) = self.frames.pop() else {
@@ -342,6 +347,7 @@ impl Machine {
         ensures same { OnOk result (IsSameRun self.old self.new) }
         ensures smaller { IfOk result (λ o. o ≡ None → length self.new.slots.items < length self.old.slots.items) }
         ensures limit { self.new.used ≤ LIMIT }
+        ensures length { OnOk result (length names.new ≤ length names.old + 2 ^ 26) }
     {
         expansion_follows_the_rules();
         let turn = turn_of(
@@ -404,6 +410,7 @@ impl Machine {
         ensures grows { OnOk result (Grows names.old names.new) }
         ensures same { OnOk result (IsSameRun self.old self.new) }
         ensures limit { self.new.used ≤ LIMIT }
+        ensures length { OnOk result (length names.new ≤ length names.old + 2 ^ 26) }
     {
         loop {
             if let Some(step) = self.turn(names, macros, search)? {

@@ -154,6 +154,7 @@ pub fn subst(
     ensures known { IfOk result (λ out. AreKnown names.new sets.new out.items) }
     ensures grows { OnOk result (Grows names.old names.new × Grows sets.old sets.new) }
     ensures tables { OnOk result (AreTables names.new sets.new) }
+    ensures length { OnOk result (length names.new ≤ length names.old + 2 * length m.now.body) }
     ensures same { OnOk result ((notes.new.from ≡ notes.old.from) × (notes.new.to ≡ notes.old.to)) }
 {
     let items = prepared(alloc, names, notes, name, m, raw)?;
