@@ -95,9 +95,11 @@ impl Expander {
     ///
     /// It answers `Out` exactly where that gives a token of the result, and `More` where it gives
     /// none; `Hungry` where it needs a token that wasn't fed, and `finish` wasn't called; `End` where
-    /// all is given after `finish`. The macros are those of the steps before. `ArgCount`,
-    /// `OpenCall`, `BadPaste` and `LimitMacros` come where expansion meets them; after a fault it
-    /// answers that fault again.
+    /// all is given after `finish`. So the steps up to an `Out` are the uses of rules up to the next
+    /// token of the result, and what is left behind that token is a list that is expanded from then
+    /// on. The macros are those of the steps before. A step adds at most 67,108,864 names.
+    /// `ArgCount`, `OpenCall`, `BadPaste` and `LimitMacros` come where expansion meets them; after a
+    /// fault it answers that fault again.
     pub fn step(
         &mut self,
         macros: &MacroTable,
@@ -145,7 +147,7 @@ impl Expander {
         &self.machine.notes.seen
     }
 
-    /// The macro work used so far, with that before.
+    /// The macro work used so far, with that before: at most 4,194,304.
     pub fn work(&self) -> u32
         ensures { result ≡ self.now.machine.used }
     {
