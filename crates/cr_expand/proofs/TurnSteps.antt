@@ -54,10 +54,6 @@ begun_short true slots = omega arith
 begun_short false slots = from_end_short slots
 
 module _ (law : FollowsTheRules) (names new : List Text) (macros : Macros) (old now : Machine) (mach : IsMachine names macros old) (known : AreMacros names macros) (same : IsSameRun old now) (rest : List Slot) (e : old.slots.items ≡ slot.End ∷ rest) where
-  pub ended_grows : (o : Option ExpStep) → IsArgumentEnd names new macros old now rest o → Grows names new
-  ended_grows None (cs, c, f, m, n, s, a, b, u, x) = subst (Grows names) (sym x) (grows_same names)
-  ended_grows (Some s) (cs, c, f, m, n, p, q) = p.names_grow
-
   ended_sets : (o : Option ExpStep) → IsArgumentEnd names new macros old now rest o → Grows old.sets now.sets
   ended_sets None (cs, c, f, m, n, s, a, b, u, x) = same_sets old.sets now.sets a
   ended_sets (Some s) (cs, c, f, m, n, p, q) = p.sets_grow

@@ -277,3 +277,10 @@ IsWantedAt names macros m step.End = (m.finished ≡ true) × (m.frames.items �
 abbrev pub IsTurnWanted : List Text → List Text → Macros → Machine → Machine → Option ExpStep → Type 0
 IsTurnWanted names new macros old now None = (0 < ends now.slots.items) × (new ≡ names)
 IsTurnWanted names new macros old now (Some s) = IsWantedAt names macros old s
+
+-- The token of the result that is given has a name that the table holds.
+abbrev pub IsOutKnown : List Text → ExpStep → Type 0
+IsOutKnown names (step.Out t) = IsNamed names t.text
+IsOutKnown names step.More = Unit {0}
+IsOutKnown names step.Hungry = Unit {0}
+IsOutKnown names step.End = Unit {0}

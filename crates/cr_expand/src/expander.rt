@@ -3,10 +3,11 @@ ghost use Rattle.std.specs.Prelude.{◌≡◌, ◌<◌, ◌≤◌, ◌^◌, ◌+
 ghost use Rattle.cr_macros.specs.declared.fault.ExpandFault.{ExpandFault as TheFault};
 ghost use Rattle.cr_macros.specs.Tokens.{Text, Token};
 ghost use Rattle.cr_macros.specs.MacroTables.{Macros};
+ghost use Rattle.cr_expand.specs.HideSets.{Grows};
 ghost use Rattle.cr_expand.specs.Held.{Faults};
 ghost use Rattle.cr_expand.specs.Ahead.{NextFollowsTheRules};
 ghost use Rattle.cr_expand.specs.Feeding.{IsPutBack};
-ghost use Rattle.cr_expand.specs.Machines.{AreMacros, IsStep, IsAhead, IsWantedAt, IsSameRun, ahead};
+ghost use Rattle.cr_expand.specs.Machines.{AreMacros, IsStep, IsAhead, IsWantedAt, IsOutKnown, IsSameRun, ahead};
 ghost use Rattle.cr_expand.specs.Expanders.{left_over, IsRunning, IsFresh, IsFed, Steps, GivesTheExpansion};
 
 use crate::closing::Search;
@@ -97,7 +98,8 @@ impl Expander {
     /// none; `Hungry` where it needs a token that wasn't fed, and `finish` wasn't called; `End` where
     /// all is given after `finish`. So the steps up to an `Out` are the uses of rules up to the next
     /// token of the result, and what is left behind that token is a list that is expanded from then
-    /// on. The macros are those of the steps before. A step adds at most 67,108,864 names.
+    /// on. The macros are those of the steps before. A step adds at most 67,108,864 names, and keeps
+    /// those that are there, whatever it answers; a token that it gives has one of the names.
     /// `ArgCount`, `OpenCall`, `BadPaste` and `LimitMacros` come where expansion meets them; after a
     /// fault it answers that fault again.
     pub fn step(
@@ -117,6 +119,8 @@ impl Expander {
         ensures stuck { (fault : TheFault) → self.old.fault ≡ Some fault → (result ≡ Err fault) × (self.new ≡ self.old) × (names.new ≡ names.old) }
         ensures running { IsRunning names.new macros.now self.new }
         ensures fault { OnOk result (self.new.fault ≡ None) }
+        ensures named { IfOk result (λ s. IsOutKnown names.new s) }
+        ensures grows { Grows names.old names.new }
         ensures names { OnOk result (length names.new ≤ length names.old + 2 ^ 26) }
         ensures limit { self.old.machine.used ≤ LIMIT → self.new.machine.used ≤ LIMIT }
     {

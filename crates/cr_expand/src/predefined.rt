@@ -18,6 +18,7 @@ use itoa::Buffer;
 fn literal(names: &mut NameTable, kind: PpKind, text: &[u8]) -> Result<(PpKind, Name), OutOfMemory>
     requires { length names.old < 2 ^ 32 - 1 }
     ensures given { IfOk result (λ given. IsGivenText names.old names.new (kind, text.now) given) }
+    ensures grows { Grows names.old names.new }
     ensures length { OnOk result (length names.new ≤ length names.old + 1) }
 {
     let name = names.intern(text)?;
@@ -35,6 +36,7 @@ fn text_for(
     requires distinct { IsDistinct names.old }
     requires file { IsNamed names.old file }
     ensures given { IfOk result (λ given. IsGivenText names.old names.new (spec.predefined_token (text_of names.old file) line p) given) }
+    ensures grows { Grows names.old names.new }
     ensures length { OnOk result (length names.new ≤ length names.old + 1) }
 {
     let mut buffer = Buffer::new();
@@ -65,7 +67,7 @@ pub fn predefined_token(
     requires file { IsNamed names.old file }
     ensures token { (hide hidden : List Text) → IfOk result (λ t. let given = spec.predefined_token (text_of names.old file) name.line p in token_of names.new hide t ≡ spec_substitution.made (token_of names.old hidden name) given.0 given.1 name.space hide) }
     ensures named { IfOk result (λ t. IsNamed names.new t.text) }
-    ensures grows { OnOk result (Grows names.old names.new) }
+    ensures grows { Grows names.old names.new }
     ensures distinct { OnOk result (IsDistinct names.new) }
     ensures length { OnOk result (length names.new ≤ length names.old + 1) }
 {

@@ -12,7 +12,7 @@ use Rattle.cr_expand.proofs.Nexts.{next_stays, next_predefined, next_object, nex
 use Rattle.cr_expand.proofs.Steps.{same_sets, keeps, predefines}
 use Rattle.cr_expand.proofs.Calling.{objects, object_faults}
 use Rattle.cr_expand.proofs.Arguments.{unclosed, predefined_fault, miscounts}
-use Rattle.cr_expand.proofs.TurnSteps.{head_known, closed_at, is_more, put_from, ended_step, ended_fault, ended_machine, ended_grows, ended_smaller, entered_step, entered_machine, entered_smaller}
+use Rattle.cr_expand.proofs.TurnSteps.{head_known, closed_at, is_more, put_from, ended_step, ended_fault, ended_machine, ended_smaller, entered_step, entered_machine, entered_smaller}
 use Rattle.cr_expand.proofs.Wants.{next_finish, no_calls, end_gives, end_ahead, wanting_end, wanting_hungry, ended_wanted, entered_wanted}
 use Rattle.cr_macros.specs.MacroTables.{table_of}
 use Rattle.cr_expand.specs.Slots.{ends}
@@ -69,6 +69,11 @@ returns-in_ok-step-in-Stays-clause-step c = λ more q.
     keeps c.args.names.now c.args.names.now c.args.macros.now c.args.self.now c.keep.new.self more c.requires.machine c.requires.macros (grows_same c.args.names.now) (same_sets c.args.self.now.sets c.keep.new.self.sets e.1) e.0.2
     c.expansion_follows_the_rules.ensures c.in-Stays.h u.0 c.in_ok-step-in-Stays.step (held c.args.names.now c.args.self.now.sets c.in-Stays.h) u.1 u.2
     c.in_ok-step-in-Stays.ensures.slots (ap (λ x. LIMIT - x) e.3) e.2 (ap (λ z. held c.args.names.now z c.in-Stays.h) e.1) c.in_ok-step-in-Stays.ensures.given
+
+pub returns-in_ok-step-in-Stays-clause-named : goal.returns-in_ok-step-in-Stays-clause-named
+returns-in_ok-step-in-Stays-clause-named c =
+    let u = next_stays c.args.names.now c.args.self.now.sets c.args.macros.now (text_of c.args.names.now c.args.self.now.file) [] c.args.self.now.slots.items c.in-Stays.h (c.in-Stays.ensures.means (text_of c.args.names.now c.args.self.now.file) [] (λ _. refl)) in
+    c.in_ok-step-in-Stays.ensures.named c.args.names.now (head_known c.args.names.now c.args.self.now.sets c.args.self.now.slots.items c.in-Stays.h u.0 u.1 c.requires.machine.slots).0
 
 pub returns-in_ok-step-in-Stays-clause-machine : goal.returns-in_ok-step-in-Stays-clause-machine
 returns-in_ok-step-in-Stays-clause-machine c =
@@ -145,11 +150,6 @@ pub returns-in_ok-step-in-ArgumentEnd-clause-machine : goal.returns-in_ok-step-i
 returns-in_ok-step-in-ArgumentEnd-clause-machine c =
     let u = next_end c.args.names.now c.args.self.now.sets c.args.macros.now (text_of c.args.names.now c.args.self.now.file) [] c.args.self.now.slots.items (c.in-ArgumentEnd.ensures.means (text_of c.args.names.now c.args.self.now.file) [] (λ _. refl)) in
     ended_machine c.expansion_follows_the_rules.ensures c.args.names.now c.end_argument.new.names c.args.macros.now c.args.self.now c.end_argument.new.self c.requires.machine c.requires.macros c.in_ok-step-in-ArgumentEnd.ensures.same u.0 u.1 c.in_ok-step-in-ArgumentEnd.step (c.in_ok-step-in-ArgumentEnd.ensures.ended u.0 u.1)
-
-pub returns-in_ok-step-in-ArgumentEnd-clause-grows : goal.returns-in_ok-step-in-ArgumentEnd-clause-grows
-returns-in_ok-step-in-ArgumentEnd-clause-grows c =
-    let u = next_end c.args.names.now c.args.self.now.sets c.args.macros.now (text_of c.args.names.now c.args.self.now.file) [] c.args.self.now.slots.items (c.in-ArgumentEnd.ensures.means (text_of c.args.names.now c.args.self.now.file) [] (λ _. refl)) in
-    ended_grows c.expansion_follows_the_rules.ensures c.args.names.now c.end_argument.new.names c.args.macros.now c.args.self.now c.end_argument.new.self c.requires.machine c.requires.macros c.in_ok-step-in-ArgumentEnd.ensures.same u.0 u.1 c.in_ok-step-in-ArgumentEnd.step (c.in_ok-step-in-ArgumentEnd.ensures.ended u.0 u.1)
 
 pub returns-in_ok-step-in-ArgumentEnd-clause-smaller : goal.returns-in_ok-step-in-ArgumentEnd-clause-smaller
 returns-in_ok-step-in-ArgumentEnd-clause-smaller c =
