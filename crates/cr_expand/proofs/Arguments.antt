@@ -21,20 +21,20 @@ use Rattle.cr_macros.specs.Expansion.{Table, Predefined, Wrong, use_of, counted_
 use Rattle.cr_macros.specs.Laws.{FollowsTheRules}
 use Rattle.cr_macros.specs.MacroTables.{Macros, macro_named, macro_text, table_of}
 use Rattle.cr_expand.specs.HideSets.{Grows}
-use Rattle.cr_expand.specs.Held.{held, all_held, all_args, hidden, IsKnown, AreKnown, Faults}
+use Rattle.cr_expand.specs.Held.{held, all_held, all_args, hidden, IsKnown, AreKnown, IsCause, Faults}
 use Rattle.cr_expand.specs.Frames as frames
-use Rattle.cr_expand.specs.Running.{Waiting, Piece, Stands, Ends, current, behind, before, first_lists, behind_lists, goes_on, put_for}
+use Rattle.cr_expand.specs.Running.{Waiting, Piece, Stands, Ends, current, behind, before, first_lists, behind_lists, goes_on_by, put_for}
 use Rattle.cr_expand.specs.Slots.{tokens, ended, ends, begun, IsSlotKnown, AreSlotsKnown}
 use Rattle.cr_expand.specs.Turns.{list_of, IsCallUse}
 use Rattle.cr_expand.specs.Wanted.{is_wanted, is_whole}
-use Rattle.cr_expand.specs.Machines.{means_of, waiting_of, waiting, total, still, IsCallKnown, IsMachine, AreMacros, IsEntered, IsMiscounted, next_call}
+use Rattle.cr_expand.specs.Machines.{means_of, waiting_of, waiting, total, still, ahead, BothFault, IsCallKnown, IsMachine, AreMacros, IsEntered, IsMiscounted, next_call}
 use Rattle.cr_expand.proofs.Telling.{no_memory}
 use Rattle.cr_expand.proofs.Kept.{held_kept, all_args_kept}
 use Rattle.cr_expand.proofs.Sets.{grows_same}
 use Rattle.cr_expand.proofs.Counting.{length_map}
-use Rattle.cr_expand.proofs.Going.{behind_before, with_done, IsDropped, goes_call, goes_wrong, predefined_over}
+use Rattle.cr_expand.proofs.Going.{behind_before, with_done, IsDropped, goes_call, goes_wrong, predefined_over, Outermost, expanding, seeking}
 use Rattle.cr_expand.proofs.Entering.{arguments_same, entered, goes_first, goes_next}
-use Rattle.cr_expand.proofs.Steps.{all_last, waiting_more, front, front_tokens, still_old, still_now, front_old, calls_old}
+use Rattle.cr_expand.proofs.Steps.{all_last, waiting_more, front, front_tokens, left_by, left_old, left_now, front_old, calls_old}
 use Rattle.cr_expand.proofs.Wholes.{all_kept_all, all_kept_text, put_kept_then}
 use Rattle.cr_expand.proofs.Calling.{lists_front, front_begun, texts_arguments, all_kept, total_last, raw_known, lists_known, ended_known, begun_known, inside_known, ends_lists}
 use Rattle.cr_expand.proofs.KeptMachine.{pieces_kept}
@@ -46,44 +46,55 @@ module _ (names new : List Text) (macros : Macros) (old now : Machine) (more : L
   abbrev T : Table
   T = table_of names macros (text_of names old.file)
 
-  pub wrong_use : (law : FollowsTheRules) (h : Held) (rest : List Slot) (cause : Cause) → old.slots.items ≡ slot.Token h ∷ rest → use_of T (held names old.sets h) (current (front names old.sets rest more)) ≡ Wrong cause
-      → still names macros old more ≡ Stopped cause []
-  wrong_use law h rest cause e u =
-      still_old names new macros old now more mach known g k file _ (Stands (held names old.sets h) ∷ front names old.sets rest more) refl (front_old names new macros old now more mach known g k file (slot.Token h) rest e)
-      ∙ goes_wrong T law (waiting names macros old.sets old.frames.items) (held names old.sets h) (front names old.sets rest more) cause (LIMIT - old.used) u
+  pub wrong_use : {A : Type 0} (o : Outermost A) (law : FollowsTheRules) (h : Held) (rest : List Slot) (cause : Cause) → old.slots.items ≡ slot.Token h ∷ rest → use_of T (held names old.sets h) (current (front names old.sets rest more)) ≡ Wrong cause
+      → left_by o.does names macros old more ≡ Stopped cause []
+  wrong_use o law h rest cause e u =
+      left_old names new macros old now more mach known g k file o _ (Stands (held names old.sets h) ∷ front names old.sets rest more) refl (front_old names new macros old now more mach known g k file (slot.Token h) rest e)
+      ∙ goes_wrong T law (o.does T) (o.rules T) (waiting names macros old.sets old.frames.items) (held names old.sets h) (front names old.sets rest more) cause (LIMIT - old.used) u
+
+  wrong_faults : (law : FollowsTheRules) (h : Held) (rest : List Slot) (cause : Cause) (x : ExpandFault) → old.slots.items ≡ slot.Token h ∷ rest → use_of T (held names old.sets h) (current (front names old.sets rest more)) ≡ Wrong cause
+      → IsCause cause x → BothFault names macros old more x
+  wrong_faults law h rest cause x e u i = (one (expanding law), one seeking) where
+    one : {A : Type 0} (o : Outermost A) → Faults (left_by o.does names macros old more) x
+    one o = rw (wrong_use o law h rest cause e u) (inl i)
+
+  no_memory_both : BothFault names macros old more fault.OutOfMemory
+  no_memory_both = (no_memory (still names macros old more), no_memory (ahead names macros old more))
 
   pub unclosed : (law : FollowsTheRules) (h : Held) (rest : List Slot) (site : Place) → old.slots.items ≡ slot.Token h ∷ rest → use_of T (held names old.sets h) (current (front names old.sets rest more)) ≡ Wrong (OpenCall site)
-      → Faults (still names macros old more) (fault.OpenCall site)
-  unclosed law h rest site e u = rw (wrong_use law h rest (OpenCall site) e u) (inl refl)
+      → BothFault names macros old more (fault.OpenCall site)
+  unclosed law h rest site e u = wrong_faults law h rest (OpenCall site) (fault.OpenCall site) e u refl
 
   pub predefined_fault : (law : FollowsTheRules) (h : Held) (kind : PpKind) (text : Text) (rest : List Slot) (x : ExpandFault) → old.slots.items ≡ slot.Token h ∷ rest
       → use_of T (held names old.sets h) (current (front names old.sets rest more)) ≡ Predefined kind text
-      → (x ≡ fault.OutOfMemory) ⊎ ((x ≡ fault.LimitMacros) × (LIMIT < old.used + 2)) → Faults (still names macros old more) x
+      → (x ≡ fault.OutOfMemory) ⊎ ((x ≡ fault.LimitMacros) × (LIMIT < old.used + 2)) → BothFault names macros old more x
   predefined_fault law h kind text rest x e u f = elim f [
-    | inl m ↦ rw m (no_memory (still names macros old more))
-    | inr p ↦ rw (
+    | inl m ↦ rw m no_memory_both
+    | inr p ↦ (one (expanding law) p, one seeking p)
+  ] where
+    one : {A : Type 0} (o : Outermost A) → (x ≡ fault.LimitMacros) × (LIMIT < old.used + 2) → Faults (left_by o.does names macros old more) x
+    one o p = rw (
       p.0,
-      still_old names new macros old now more mach known g k file _ (Stands (held names old.sets h) ∷ front names old.sets rest more) refl (front_old names new macros old now more mach known g k file (slot.Token h) rest e),
-      predefined_over T law (waiting names macros old.sets old.frames.items) (held names old.sets h) kind text (front names old.sets rest more) (LIMIT - old.used) u (omega (arith, p.1)),
+      left_old names new macros old now more mach known g k file o _ (Stands (held names old.sets h) ∷ front names old.sets rest more) refl (front_old names new macros old now more mach known g k file (slot.Token h) rest e),
+      predefined_over T law (o.does T) (o.rules T) (waiting names macros old.sets old.frames.items) (held names old.sets h) kind text (front names old.sets rest more) (LIMIT - old.used) u (omega (arith, p.1)),
     ) (inl refl)
-  ]
 
   -- the next argument is begun
-  pub next_argument : (law : FollowsTheRules) (cs : List frames.Call) (c : frames.Call) (rest : List Slot) → old.slots.items ≡ slot.End ∷ rest → old.frames.items ≡ cs ++ c ∷ [] → 0 < c.more
+  pub next_argument : {A : Type 0} (o : Outermost A) (law : FollowsTheRules) (cs : List frames.Call) (c : frames.Call) (rest : List Slot) → old.slots.items ≡ slot.End ∷ rest → old.frames.items ≡ cs ++ c ∷ [] → 0 < c.more
       → now.frames.items ≡ cs ++ next_call c ∷ [] → now.slots.items ≡ begun (slice_index_or c.wanted (length c.done + 1) false) rest → now.sets ≡ old.sets → now.used ≡ old.used → new ≡ names
-      → still names macros old more ≡ still new macros now more
-  next_argument law cs c rest e f m n s a b x =
+      → left_by o.does names macros old more ≡ left_by o.does new macros now more
+  next_argument o law cs c rest e f m n s a b x =
       let ck : IsCallKnown names macros old.sets c = all_last (IsCallKnown names macros old.sets) cs c (subst (All (IsCallKnown names macros old.sets)) f mach.calls) in
       let wd : slice_index_or c.wanted (length c.done + 1) false ≡ is_wanted (means_of names (macro_named c.name.token.text macros)) (length c.done + 1) = ck.wanted (length c.done + 1) (omega arith) in
       let ld = length_map (all_held names old.sets) c.done in
       let le : length c.done + 1 ≡ suc (length (all_args names old.sets c.done)) = omega (arith, ld) in
       let some : 0 < ends rest = (let t1 = mach.ends in let t2 = ap ends e in let t3 = ap total f in let t4 = total_last cs c in omega (arith, t1, t2, t3, t4, m)) in
-      still_old names new macros old now more mach known g k file (waiting_of names macros old.sets c ∷ waiting names macros old.sets cs) (Ends ∷ front names old.sets rest more) (calls_old names new macros old now more mach known g k file cs c f)
+      left_old names new macros old now more mach known g k file o (waiting_of names macros old.sets c ∷ waiting names macros old.sets cs) (Ends ∷ front names old.sets rest more) (calls_old names new macros old now more mach known g k file cs c f)
       (front_old names new macros old now more mach known g k file slot.End rest e)
-      ∙ goes_next T law (waiting names macros old.sets cs) (waiting_of names macros old.sets c) (front names old.sets rest more) (front names old.sets now.slots.items more) (c.more - 1) (LIMIT - old.used) (omega arith)
+      ∙ goes_next T law (o.does T) (waiting names macros old.sets cs) (waiting_of names macros old.sets c) (front names old.sets rest more) (front names old.sets now.slots.items more) (c.more - 1) (LIMIT - old.used) (omega arith)
       (is_dropped_as _ _ (front names old.sets rest more) (front names old.sets now.slots.items more) (wd ∙ ap (is_wanted (means_of names (macro_named c.name.token.text macros))) le)
       (subst (λ l. IsDropped (slice_index_or c.wanted (length c.done + 1) false) (front names old.sets rest more) (front names old.sets l more)) (sym s) (front_begun names old.sets more (slice_index_or c.wanted (length c.done + 1) false) rest some)))
-      ∙ sym (still_now names new macros old now more mach known g k file (with_done (waiting_of names macros old.sets c) (c.more - 1) ∷ waiting names macros old.sets cs) (front names old.sets now.slots.items more) (LIMIT - old.used)
+      ∙ sym (left_now names new macros old now more mach known g k file o (with_done (waiting_of names macros old.sets c) (c.more - 1) ∷ waiting names macros old.sets cs) (front names old.sets now.slots.items more) (LIMIT - old.used)
       (ap (λ l. waiting l macros now.sets now.frames.items) x ∙ ap (λ z. waiting names macros z now.frames.items) a ∙ ap (waiting names macros old.sets) n ∙ waiting_more names macros old.sets cs (next_call c)
       ∙ ap (λ d. record (waiting_of names macros old.sets c) { done = d; out = []; more = c.more - 1 } ∷ waiting names macros old.sets cs) (map-append (all_held names old.sets) c.done (c.out ∷ [])))
       (ap (λ l. front l now.sets now.slots.items more) x ∙ ap (λ z. front names z now.slots.items more) a) (ap (λ u. LIMIT - u) b))
@@ -99,14 +110,11 @@ module _ (names new : List Text) (macros : Macros) (old now : Machine) (more : L
     behind_same : behind (front names old.sets u.rest more) ≡ behind (front names old.sets behind_name more)
     behind_same = sym (ap behind (front_tokens names old.sets u.inside (slot.Token u.closes ∷ u.rest) more) ∙ behind_before (all_held names old.sets u.inside) (front names old.sets (slot.Token u.closes ∷ u.rest) more))
 
-    pub miscounts : (x : ExpandFault) → IsMiscounted names m u.params u.inside h x → Faults (still names macros old more) x
+    pub miscounts : (x : ExpandFault) → IsMiscounted names m u.params u.inside h x → BothFault names macros old more x
     miscounts x f = elim f [
-      | inl p ↦ rw p (no_memory (still names macros old more))
-      | inr p ↦ rw (
-        p.0,
-        wrong_use law h behind_name (ArgCount h.token.site) u.slots_are
-            (u.used ∙ ap (counted_call (held names old.sets h) (macro_text names m) (held names old.sets u.closes) (list_of names old.sets u.rest more)) (p.1 old.sets)),
-      ) (inl refl)
+      | inl p ↦ rw p no_memory_both
+      | inr p ↦ wrong_faults law h behind_name (ArgCount h.token.site) x u.slots_are
+          (u.used ∙ ap (counted_call (held names old.sets h) (macro_text names m) (held names old.sets u.closes) (list_of names old.sets u.rest more)) (p.1 old.sets)) p.0
     ]
 
     slots_here : AreSlotsKnown names old.sets (slot.Token h ∷ behind_name)
@@ -130,9 +138,9 @@ module _ (names new : List Text) (macros : Macros) (old now : Machine) (more : L
         subst (AreSlotsKnown names old.sets) (sym i.slots) (begun_known names old.sets (is_wanted (macro_text names m) 0) (ended i.lists ++ u.rest)
         (All-append (IsSlotKnown names old.sets) (ended i.lists) u.rest (ended_known names old.sets i.lists (lists_known names old.sets u.inside i.lists parts_known.0 i.among)) rest_is_known))
 
-    pub enters : (i : IsEntered names old now h m u.params u.inside u.closes u.rest) → new ≡ names → LIMIT - now.used ≡ LIMIT - old.used
-        → still names macros old more ≡ still new macros now more
-    enters i x l =
+    pub enters : {A : Type 0} (o : Outermost A) (i : IsEntered names old now h m u.params u.inside u.closes u.rest) → new ≡ names → LIMIT - now.used ≡ LIMIT - old.used
+        → left_by o.does names macros old more ≡ left_by o.does new macros now more
+    enters o i x l =
         let t = held names old.sets h in
         let M = macro_text names m in
         let args = all_args names old.sets i.all in
@@ -142,16 +150,16 @@ module _ (names new : List Text) (macros : Macros) (old now : Machine) (more : L
         let lf = lists_front names old.sets i.lists u.rest more in
         let some : 0 < ends (ended i.lists ++ u.rest) = some_ends i.lists u.rest i.call.more i.count in
         let ws = waiting names macros old.sets old.frames.items in
-        still_old names new macros old now more mach known g k file ws (Stands t ∷ front names old.sets behind_name more) refl (front_old names new macros old now more mach known g k file (slot.Token h) behind_name u.slots_are)
-        ∙ goes_call T law ws t M args (held names old.sets u.closes) (front names old.sets behind_name more) (front names old.sets u.rest more) (LIMIT - old.used)
+        left_old names new macros old now more mach known g k file o ws (Stands t ∷ front names old.sets behind_name more) refl (front_old names new macros old now more mach known g k file (slot.Token h) behind_name u.slots_are)
+        ∙ goes_call T law (o.does T) (o.rules T) ws t M args (held names old.sets u.closes) (front names old.sets behind_name more) (front names old.sets u.rest more) (LIMIT - old.used)
         (u.used ∙ ap (counted_call t M (held names old.sets u.closes) (list_of names old.sets u.rest more)) i.args) behind_same
-        ∙ put_kept_then t M args raw H (expanded (expand T) (body_items M) 0 args (LIMIT - old.used)) (λ ts. goes_on T ws (before ts (front names old.sets u.rest more))) (ap (all_args names old.sets) i.raw ∙ all_kept_text names old.sets (is_whole M) 0 i.all)
-        ∙ arguments_same T law t M raw args (all_args names old.sets i.lists) H (λ ts. goes_on T ws (before ts (front names old.sets u.rest more))) (LIMIT - old.used) (texts_arguments names old.sets i.all i.lists i.all_are)
-        ∙ ap (λ a. (expanded (expand T) (body_items M) 0 a >>= λ fulls. put_for t M raw fulls H >>= λ ts. goes_on T ws (before ts (front names old.sets u.rest more))) (LIMIT - old.used)) (sym lf.0 ∙ ap (λ z. first_lists z ps) i.count)
-        ∙ ap (λ q. (expanded (expand T) (body_items M) 0 (first_lists (suc i.call.more) ps) >>= λ fulls. put_for t M raw fulls H >>= λ ts. goes_on T ws (before ts q)) (LIMIT - old.used)) (sym lf.1 ∙ ap (λ z. behind_lists z ps) i.count)
-        ∙ goes_first T law ws t M raw H i.call.more ps qs (LIMIT - old.used)
+        ∙ put_kept_then t M args raw H (expanded (expand T) (body_items M) 0 args (LIMIT - old.used)) (λ ts. goes_on_by (o.does T) T ws (before ts (front names old.sets u.rest more))) (ap (all_args names old.sets) i.raw ∙ all_kept_text names old.sets (is_whole M) 0 i.all)
+        ∙ arguments_same T law t M raw args (all_args names old.sets i.lists) H (λ ts. goes_on_by (o.does T) T ws (before ts (front names old.sets u.rest more))) (LIMIT - old.used) (texts_arguments names old.sets i.all i.lists i.all_are)
+        ∙ ap (λ a. (expanded (expand T) (body_items M) 0 a >>= λ fulls. put_for t M raw fulls H >>= λ ts. goes_on_by (o.does T) T ws (before ts (front names old.sets u.rest more))) (LIMIT - old.used)) (sym lf.0 ∙ ap (λ z. first_lists z ps) i.count)
+        ∙ ap (λ q. (expanded (expand T) (body_items M) 0 (first_lists (suc i.call.more) ps) >>= λ fulls. put_for t M raw fulls H >>= λ ts. goes_on_by (o.does T) T ws (before ts q)) (LIMIT - old.used)) (sym lf.1 ∙ ap (λ z. behind_lists z ps) i.count)
+        ∙ goes_first T law (o.does T) ws t M raw H i.call.more ps qs (LIMIT - old.used)
         (subst (λ s. IsDropped (is_wanted M 0) ps (front names old.sets s more)) (sym i.slots) (front_begun names old.sets more (is_wanted M 0) (ended i.lists ++ u.rest) some))
-        ∙ sym (still_now names new macros old now more mach known g k file (entered t M raw H i.call.more ∷ ws) qs (LIMIT - old.used)
+        ∙ sym (left_now names new macros old now more mach known g k file o (entered t M raw H i.call.more ∷ ws) qs (LIMIT - old.used)
         (ap (λ y. waiting y macros now.sets now.frames.items) x ∙ ap (waiting names macros now.sets) i.frames ∙ waiting_more names macros now.sets old.frames.items i.call
         ∙ ap (λ w. w ∷ waiting names macros now.sets old.frames.items) call_is
         ∙ ap (λ w. entered t M raw H i.call.more ∷ w) (sym (ap (λ y. waiting y macros now.sets old.frames.items) x) ∙ all_kept names new macros old now more mach known g k file))

@@ -10,8 +10,9 @@ use Rattle.cr_expand.specs.declared.held.Held.{Held}
 use Rattle.cr_expand.specs.declared.slot.Slot.{Slot}
 use Rattle.cr_expand.specs.declared.slot.Slot.TheVariants as slot
 use Rattle.cr_expand.specs.declared.machine.Machine.{Machine}
+use Rattle.cr_expand.specs.declared.machine.ExpStep.TheVariants as step
 use Rattle.cr_expand.specs.declared.machine.TheConstants.{LIMIT}
-use Rattle.cr_macros.specs.Tokens.{Text, Token, Work, then_do, ◌>>=◌, with_name}
+use Rattle.cr_macros.specs.Tokens.{Text, Token, Work, after, then_do, ◌>>=◌, with_name}
 use Rattle.cr_macros.specs.Definition.{text_of}
 use Rattle.cr_macros.specs.Expansion.{Table, Object, use_of}
 use Rattle.cr_macros.specs.Laws.{FollowsTheRules}
@@ -19,14 +20,15 @@ use Rattle.cr_macros.specs.MacroTables.{Macros, macro_named, macro_text, table_o
 use Rattle.cr_expand.specs.HideSets.{Sets, Grows}
 use Rattle.cr_expand.specs.Held.{held, all_held, all_args, hidden, IsKnown, AreKnown, Faults}
 use Rattle.cr_expand.specs.Frames as frames
-use Rattle.cr_expand.specs.Running.{Waiting, Stands, Ends, current, behind, before, first_lists, behind_lists, goes_on, leads, put_for}
+use Rattle.cr_expand.specs.Running.{Waiting, Stands, Ends, current, behind, before, first_lists, behind_lists, goes_on_by, goes_on, put_for}
+use Rattle.cr_expand.specs.Ahead.{next_token}
 use Rattle.cr_expand.specs.Slots.{tokens, ended, ends, begun, IsSlotKnown, AreSlotsKnown}
 use Rattle.cr_expand.specs.Calls.{IsAmong}
-use Rattle.cr_expand.specs.Machines.{means_of, waiting_of, waiting, total, still, IsCallHeld, IsMachine, AreMacros, IsUse, IsPut, AreArguments, done_call, put_for_call}
+use Rattle.cr_expand.specs.Machines.{means_of, waiting_of, waiting, total, still, ahead, IsCallHeld, IsMachine, AreMacros, IsAhead, BothFault, IsPut, AreArguments, done_call, put_for_call}
 use Rattle.cr_expand.proofs.Telling.{faults_first}
-use Rattle.cr_expand.proofs.Going.{current_before, behind_before, IsDropped, leads_none, goes_object, goes_last}
+use Rattle.cr_expand.proofs.Going.{current_before, behind_before, IsDropped, leads_none, goes_object, goes_last, Outermost, expanding, seeking}
 use Rattle.cr_expand.proofs.Entering.{AreArguments as AreTextArguments}
-use Rattle.cr_expand.proofs.Steps.{all_front, front, front_tokens, still_old, still_now, waiting_kept, front_kept, front_old, rest_known, calls_old, calls_held}
+use Rattle.cr_expand.proofs.Steps.{all_front, front, front_tokens, left_by, left_old, left_now, waiting_kept, front_kept, front_old, rest_known, calls_old, calls_held}
 
 -- the lists that stand with their ends
 pub lists_front : (names : List Text) (sets : Sets) (lists : List (List Held)) (rest : List Slot) (more : List Token)
@@ -136,59 +138,68 @@ module _ (names new : List Text) (macros : Macros) (old now : Machine) (more : L
   T = table_of names macros (text_of names old.file)
 
   -- what is put in goes on before the rest
-  puts : (ws : List Waiting) (work : Work (List Token)) (rest : List Slot)
+  puts_on : {A : Type 0} (o : Outermost A) (ws : List Waiting) (work : Work (List Token)) (rest : List Slot)
+      → left_by o.does names macros old more ≡ (work >>= λ ts. goes_on_by (o.does T) T ws (before ts (front names old.sets rest more))) (LIMIT - old.used)
+      → (p : IsPut names new old now work rest) → waiting new macros now.sets now.frames.items ≡ ws → AreSlotsKnown names old.sets rest → left_by o.does names macros old more ≡ after p.events (left_by o.does new macros now more)
+  puts_on o ws work rest e p w a =
+      e ∙ ap (λ r. then_do r (λ ts. goes_on_by (o.does T) T ws (before ts (front names old.sets rest more)))) p.gives
+      ∙ ap (after p.events) (sym (left_now names new macros old now more mach known g k file o ws (before (all_held new now.sets p.list) (front names old.sets rest more)) (LIMIT - now.used) w
+      (ap (λ s. front new now.sets s more) p.slots ∙ front_tokens new now.sets p.list rest more ∙ ap (before (all_held new now.sets p.list)) (front_kept names new macros old now more mach known g k file rest a)) refl))
+
+  puts : (law : FollowsTheRules) (ws : List Waiting) (work : Work (List Token)) (rest : List Slot)
       → still names macros old more ≡ (work >>= λ ts. goes_on T ws (before ts (front names old.sets rest more))) (LIMIT - old.used)
-      → IsPut names new old now work rest → waiting new macros now.sets now.frames.items ≡ ws → AreSlotsKnown names old.sets rest → IsUse names new macros old now more []
-  puts ws work rest e p w a = record {
-    events = p.events;
-    one = p.one;
-    goes = e ∙ ap (λ r. then_do r (λ ts. goes_on T ws (before ts (front names old.sets rest more)))) p.gives
-        ∙ leads_none p.events (goes_on T ws (before (all_held new now.sets p.list) (front names old.sets rest more)) (LIMIT - now.used))
-        ∙ ap (leads [] p.events) (sym (still_now names new macros old now more mach known g k file ws (before (all_held new now.sets p.list) (front names old.sets rest more)) (LIMIT - now.used) w
-        (ap (λ s. front new now.sets s more) p.slots ∙ front_tokens new now.sets p.list rest more ∙ ap (before (all_held new now.sets p.list)) (front_kept names new macros old now more mach known g k file rest a)) refl));
-    seen = p.seen;
-  }
+      → ahead names macros old more ≡ (work >>= λ ts. goes_on_by (next_token T) T ws (before ts (front names old.sets rest more))) (LIMIT - old.used)
+      → IsPut names new old now work rest → waiting new macros now.sets now.frames.items ≡ ws → AreSlotsKnown names old.sets rest → IsAhead names new macros old now more step.More
+  puts law ws work rest e f p w a = (
+    record { events = p.events; one = p.one; goes = puts_on (expanding law) ws work rest e p w a ∙ leads_none p.events (still new macros now more); seen = p.seen },
+    puts_on seeking ws work rest f p w a,
+  )
 
   pub all_kept : waiting new macros now.sets old.frames.items ≡ waiting names macros old.sets old.frames.items
   all_kept = waiting_kept names new macros old now more mach known g k file old.frames.items (calls_held names new macros old now more mach known g k file)
 
-  object_goes : (law : FollowsTheRules) (h : Held) (m : Macro) (rest : List Slot) → old.slots.items ≡ slot.Token h ∷ rest → use_of T (held names old.sets h) (current (front names old.sets rest more)) ≡ Object (macro_text names m)
-      → still names macros old more ≡ (put_for (held names old.sets h) (macro_text names m) [] [] (with_name (text_of names h.token.text) (hidden names old.sets h.hide.0))
-      >>= λ ts. goes_on T (waiting names macros old.sets old.frames.items) (before ts (front names old.sets rest more))) (LIMIT - old.used)
-  object_goes law h m rest e u =
-      still_old names new macros old now more mach known g k file _ (Stands (held names old.sets h) ∷ front names old.sets rest more) refl (front_old names new macros old now more mach known g k file (slot.Token h) rest e)
-      ∙ goes_object T law (waiting names macros old.sets old.frames.items) (held names old.sets h) (macro_text names m) (front names old.sets rest more) (LIMIT - old.used) u
+  object_goes : {A : Type 0} (o : Outermost A) (law : FollowsTheRules) (h : Held) (m : Macro) (rest : List Slot) → old.slots.items ≡ slot.Token h ∷ rest → use_of T (held names old.sets h) (current (front names old.sets rest more)) ≡ Object (macro_text names m)
+      → left_by o.does names macros old more ≡ (put_for (held names old.sets h) (macro_text names m) [] [] (with_name (text_of names h.token.text) (hidden names old.sets h.hide.0))
+      >>= λ ts. goes_on_by (o.does T) T (waiting names macros old.sets old.frames.items) (before ts (front names old.sets rest more))) (LIMIT - old.used)
+  object_goes o law h m rest e u =
+      left_old names new macros old now more mach known g k file o _ (Stands (held names old.sets h) ∷ front names old.sets rest more) refl (front_old names new macros old now more mach known g k file (slot.Token h) rest e)
+      ∙ goes_object T law (o.does T) (o.rules T) (waiting names macros old.sets old.frames.items) (held names old.sets h) (macro_text names m) (front names old.sets rest more) (LIMIT - old.used) u
 
   pub objects : (law : FollowsTheRules) (h : Held) (m : Macro) (rest : List Slot) → old.slots.items ≡ slot.Token h ∷ rest → use_of T (held names old.sets h) (current (front names old.sets rest more)) ≡ Object (macro_text names m)
       → IsPut names new old now (put_for (held names old.sets h) (macro_text names m) [] [] (with_name (text_of names h.token.text) (hidden names old.sets h.hide.0))) rest → now.frames.items ≡ old.frames.items
-      → IsUse names new macros old now more []
+      → IsAhead names new macros old now more step.More
   objects law h m rest e u p f =
-      puts (waiting names macros old.sets old.frames.items) _ rest (object_goes law h m rest e u) p (ap (waiting new macros now.sets) f ∙ all_kept) (rest_known names new macros old now more mach known g k file (slot.Token h) rest e)
+      puts law (waiting names macros old.sets old.frames.items) _ rest (object_goes (expanding law) law h m rest e u) (object_goes seeking law h m rest e u) p
+      (ap (waiting new macros now.sets) f ∙ all_kept) (rest_known names new macros old now more mach known g k file (slot.Token h) rest e)
 
   pub object_faults : (law : FollowsTheRules) (h : Held) (m : Macro) (rest : List Slot) (x : ExpandFault) → old.slots.items ≡ slot.Token h ∷ rest → use_of T (held names old.sets h) (current (front names old.sets rest more)) ≡ Object (macro_text names m)
-      → Faults (put_for (held names old.sets h) (macro_text names m) [] [] (with_name (text_of names h.token.text) (hidden names old.sets h.hide.0)) (LIMIT - old.used)) x → Faults (still names macros old more) x
-  object_faults law h m rest x e u p = rw (object_goes law h m rest e u) (faults_first _ (λ ts. goes_on T (waiting names macros old.sets old.frames.items) (before ts (front names old.sets rest more))) x p)
+      → Faults (put_for (held names old.sets h) (macro_text names m) [] [] (with_name (text_of names h.token.text) (hidden names old.sets h.hide.0)) (LIMIT - old.used)) x → BothFault names macros old more x
+  object_faults law h m rest x e u p = (one (expanding law), one seeking) where
+    one : {A : Type 0} (o : Outermost A) → Faults (left_by o.does names macros old more) x
+    one o = rw (object_goes o law h m rest e u) (faults_first _ (λ ts. goes_on_by (o.does T) T (waiting names macros old.sets old.frames.items) (before ts (front names old.sets rest more))) x p)
 
   -- the last argument of a call ends
-  last_goes : (law : FollowsTheRules) (cs : List frames.Call) (c : frames.Call) (rest : List Slot) → old.slots.items ≡ slot.End ∷ rest → old.frames.items ≡ cs ++ c ∷ [] → c.more ≡ 0
-      → still names macros old more ≡ (put_for_call names macros old.sets (done_call c) >>= λ ts. goes_on T (waiting names macros old.sets cs) (before ts (front names old.sets rest more))) (LIMIT - old.used)
-  last_goes law cs c rest e f m =
-      still_old names new macros old now more mach known g k file (waiting_of names macros old.sets c ∷ waiting names macros old.sets cs) (Ends ∷ front names old.sets rest more) (calls_old names new macros old now more mach known g k file cs c f)
+  last_goes : {A : Type 0} (o : Outermost A) (law : FollowsTheRules) (cs : List frames.Call) (c : frames.Call) (rest : List Slot) → old.slots.items ≡ slot.End ∷ rest → old.frames.items ≡ cs ++ c ∷ [] → c.more ≡ 0
+      → left_by o.does names macros old more ≡ (put_for_call names macros old.sets (done_call c) >>= λ ts. goes_on_by (o.does T) T (waiting names macros old.sets cs) (before ts (front names old.sets rest more))) (LIMIT - old.used)
+  last_goes o law cs c rest e f m =
+      left_old names new macros old now more mach known g k file o (waiting_of names macros old.sets c ∷ waiting names macros old.sets cs) (Ends ∷ front names old.sets rest more) (calls_old names new macros old now more mach known g k file cs c f)
       (front_old names new macros old now more mach known g k file slot.End rest e)
-      ∙ goes_last T law (waiting names macros old.sets cs) (waiting_of names macros old.sets c) (front names old.sets rest more) (LIMIT - old.used) m
+      ∙ goes_last T law (o.does T) (o.rules T) (waiting names macros old.sets cs) (waiting_of names macros old.sets c) (front names old.sets rest more) (LIMIT - old.used) m
       ∙ ap (λ d. (put_for (held names old.sets c.name) (means_of names (macro_named c.name.token.text macros)) (all_args names old.sets c.raw) d (hidden names old.sets c.hide)
-      >>= λ ts. goes_on T (waiting names macros old.sets cs) (before ts (front names old.sets rest more))) (LIMIT - old.used))
+      >>= λ ts. goes_on_by (o.does T) T (waiting names macros old.sets cs) (before ts (front names old.sets rest more))) (LIMIT - old.used))
       (sym (map-append (all_held names old.sets) c.done (c.out ∷ [])))
 
   pub front_calls : (cs : List frames.Call) (c : frames.Call) → old.frames.items ≡ cs ++ c ∷ [] → All (IsCallHeld names macros old.sets) cs
   front_calls cs c f = all_front (IsCallHeld names macros old.sets) cs c (subst (All (IsCallHeld names macros old.sets)) f (calls_held names new macros old now more mach known g k file))
 
   pub completes : (law : FollowsTheRules) (cs : List frames.Call) (c : frames.Call) (rest : List Slot) → old.slots.items ≡ slot.End ∷ rest → old.frames.items ≡ cs ++ c ∷ [] → c.more ≡ 0 → now.frames.items ≡ cs
-      → IsPut names new old now (put_for_call names macros old.sets (done_call c)) rest → IsUse names new macros old now more []
+      → IsPut names new old now (put_for_call names macros old.sets (done_call c)) rest → IsAhead names new macros old now more step.More
   completes law cs c rest e f m n p =
-      puts (waiting names macros old.sets cs) (put_for_call names macros old.sets (done_call c)) rest (last_goes law cs c rest e f m) p
+      puts law (waiting names macros old.sets cs) (put_for_call names macros old.sets (done_call c)) rest (last_goes (expanding law) law cs c rest e f m) (last_goes seeking law cs c rest e f m) p
       (ap (waiting new macros now.sets) n ∙ waiting_kept names new macros old now more mach known g k file cs (front_calls cs c f)) (rest_known names new macros old now more mach known g k file slot.End rest e)
 
   pub complete_faults : (law : FollowsTheRules) (cs : List frames.Call) (c : frames.Call) (rest : List Slot) (x : ExpandFault) → old.slots.items ≡ slot.End ∷ rest → old.frames.items ≡ cs ++ c ∷ [] → c.more ≡ 0
-      → Faults (put_for_call names macros old.sets (done_call c) (LIMIT - old.used)) x → Faults (still names macros old more) x
-  complete_faults law cs c rest x e f m p = rw (last_goes law cs c rest e f m) (faults_first _ (λ ts. goes_on T (waiting names macros old.sets cs) (before ts (front names old.sets rest more))) x p)
+      → Faults (put_for_call names macros old.sets (done_call c) (LIMIT - old.used)) x → BothFault names macros old more x
+  complete_faults law cs c rest x e f m p = (one (expanding law), one seeking) where
+    one : {A : Type 0} (o : Outermost A) → Faults (left_by o.does names macros old more) x
+    one o = rw (last_goes o law cs c rest e f m) (faults_first _ (λ ts. goes_on_by (o.does T) T (waiting names macros old.sets cs) (before ts (front names old.sets rest more))) x p)

@@ -6,7 +6,7 @@ use Rattle.cr_macros.specs.Substitution.{Args, Item, Stays, Spelt, Bare, Full, C
 use Rattle.cr_macros.specs.Expansion.{Table, expand, expanded, expanded_if, put_in}
 use Rattle.cr_macros.specs.Laws.{FollowsTheRules}
 use Rattle.cr_base.specs.declared.cause.Role.TheVariants.{MacroName}
-use Rattle.cr_expand.specs.Running.{Piece, Ends, current, behind, before, first_lists, behind_lists, Waiting, put_for, resumes, goes_on}
+use Rattle.cr_expand.specs.Running.{Piece, Ends, current, behind, before, first_lists, behind_lists, Waiting, put_for, resumes, goes_on_by}
 use Rattle.cr_expand.proofs.Going.{then_then, then_same, after_none, with_done, is_wanted, IsDropped, one_argument}
 
 -- Two lists of arguments are the same at each place, where one that is missing is empty.
@@ -66,7 +66,7 @@ module _ (table : Table) (law : FollowsTheRules) where
       ∙ sym (then_then (expanded (expand table) its (i + 1) args left1) (λ fulls. give (full ∷ fulls)) (λ fulls. give (fulls ++ [] ∷ []))))
       ∙ sym (then_then r (λ full. expanded (expand table) its (i + 1) args >>= λ fulls. give (full ∷ fulls)) (λ fulls. give (fulls ++ [] ∷ [])))
 
-  pub arguments_same : (t : Token) (m : MacroText) (raw args lists : Args) (hide : List Text) (go : List Token → Work (List Token)) (left : ℕ) → AreArguments args lists
+  pub arguments_same : {B : Type 0} (t : Token) (m : MacroText) (raw args lists : Args) (hide : List Text) (go : List Token → Work B) (left : ℕ) → AreArguments args lists
       → (expanded (expand table) (body_items m) 0 args >>= λ fulls. put_for t m raw fulls hide >>= go) left
       ≡ (expanded (expand table) (body_items m) 0 lists >>= λ fulls. put_for t m raw fulls hide >>= go) left
   arguments_same t m raw args lists hide go left h = elim h [
@@ -86,37 +86,38 @@ module _ (table : Table) (law : FollowsTheRules) where
         ∙ ap (λ l. (expanded (expand table) (body_items m) 0 l >>= λ fulls. put_for t m raw fulls hide >>= go) left) (sym p.1)
   ]
 
-  behind_dropped : (b : Bool) (ps qs : List Piece) → IsDropped b ps qs → behind qs ≡ behind ps
-  behind_dropped true ps qs h = ap behind h
-  behind_dropped false ps qs h = ap behind h
+behind_dropped : (b : Bool) (ps qs : List Piece) → IsDropped b ps qs → behind qs ≡ behind ps
+behind_dropped true ps qs h = ap behind h
+behind_dropped false ps qs h = ap behind h
 
+module _ {A : Type 0} (table : Table) (law : FollowsTheRules) (last : List Token → Work A) where
   -- the next argument of a call
   pub goes_next : (ws : List Waiting) (w : Waiting) (ps qs : List Piece) (n left : ℕ) → w.more ≡ suc n → IsDropped (is_wanted w.means (suc (length w.done))) ps qs
-      → goes_on table (w ∷ ws) (Ends ∷ ps) left ≡ goes_on table (with_done w n ∷ ws) qs left
+      → goes_on_by last table (w ∷ ws) (Ends ∷ ps) left ≡ goes_on_by last table (with_done w n ∷ ws) qs left
   goes_next ws w ps qs n left e h =
       let its = body_items w.means in
-      let F : List Piece → List Token → Args → Work (List Token) = λ l o fulls. put_for w.name w.means w.raw (w.done ++ o ∷ fulls) w.hide >>= λ ts. goes_on table ws (before ts (behind_lists n l)) in
-      ap (λ r. then_do r (resumes table (goes_on table ws) w ps)) (law table [] left)
-      ∙ after_none (resumes table (goes_on table ws) w ps [] left)
+      let F : List Piece → List Token → Args → Work A = λ l o fulls. put_for w.name w.means w.raw (w.done ++ o ∷ fulls) w.hide >>= λ ts. goes_on_by last table ws (before ts (behind_lists n l)) in
+      ap (λ r. then_do r (resumes table (goes_on_by last table ws) w ps)) (law table [] left)
+      ∙ after_none (resumes table (goes_on_by last table ws) w ps [] left)
       ∙ ap (λ k. (expanded (expand table) its (suc (length w.done)) (first_lists k ps)
-      >>= λ fulls. put_for w.name w.means w.raw (w.done ++ (w.out ++ []) ∷ fulls) w.hide >>= λ ts. goes_on table ws (before ts (behind_lists k ps))) left) e
+      >>= λ fulls. put_for w.name w.means w.raw (w.done ++ (w.out ++ []) ∷ fulls) w.hide >>= λ ts. goes_on_by last table ws (before ts (behind_lists k ps))) left) e
       ∙ ap (λ o. (expanded (expand table) its (suc (length w.done)) (first_lists (suc n) ps) >>= F (behind ps) o) left) (append-nil w.out)
       ∙ one_argument table law (is_wanted w.means (suc (length w.done))) ps qs its (suc (length w.done) + 1) n (F (behind ps) w.out) left h
       ∙ ap (λ l. then_do (expand table (current qs) left) (λ full. expanded (expand table) its (suc (length w.done) + 1) (first_lists n (behind qs)) >>= λ fulls. F l w.out (full ∷ fulls))) (sym (behind_dropped (is_wanted w.means (suc (length w.done))) ps qs h))
       ∙ ap (λ k. then_do (expand table (current qs) left) (λ full. expanded (expand table) its k (first_lists n (behind qs)) >>= λ fulls. F (behind qs) w.out (full ∷ fulls)))
       (let l = length-append w.done (w.out ∷ []) in let q : suc (length w.done) + 1 ≡ suc (length (w.done ++ w.out ∷ [])) = omega (arith, l) in q)
       ∙ then_same (expand table (current qs) left) (λ full. expanded (expand table) its (suc (length (w.done ++ w.out ∷ []))) (first_lists n (behind qs)) >>= λ fulls. F (behind qs) w.out (full ∷ fulls))
-      (resumes table (goes_on table ws) (with_done w n) (behind qs))
+      (resumes table (goes_on_by last table ws) (with_done w n) (behind qs))
       (λ full left1. then_same (expanded (expand table) its (suc (length (w.done ++ w.out ∷ []))) (first_lists n (behind qs)) left1) (λ fulls. F (behind qs) w.out (full ∷ fulls))
-      (λ fulls. put_for w.name w.means w.raw ((w.done ++ w.out ∷ []) ++ full ∷ fulls) w.hide >>= λ ts. goes_on table ws (before ts (behind_lists n (behind qs))))
-      (λ fulls left2. ap (λ l. (put_for w.name w.means w.raw l w.hide >>= λ ts. goes_on table ws (before ts (behind_lists n (behind qs)))) left2) (sym (append_assoc w.done (w.out ∷ []) (full ∷ fulls)))))
+      (λ fulls. put_for w.name w.means w.raw ((w.done ++ w.out ∷ []) ++ full ∷ fulls) w.hide >>= λ ts. goes_on_by last table ws (before ts (behind_lists n (behind qs))))
+      (λ fulls left2. ap (λ l. (put_for w.name w.means w.raw l w.hide >>= λ ts. goes_on_by last table ws (before ts (behind_lists n (behind qs)))) left2) (sym (append_assoc w.done (w.out ∷ []) (full ∷ fulls)))))
 
   -- the first argument of a call
   pub goes_first : (ws : List Waiting) (t : Token) (m : MacroText) (raw : Args) (hide : List Text) (n : ℕ) (ps qs : List Piece) (left : ℕ) → IsDropped (is_wanted m 0) ps qs
-      → (expanded (expand table) (body_items m) 0 (first_lists (suc n) ps) >>= λ fulls. put_for t m raw fulls hide >>= λ ts. goes_on table ws (before ts (behind_lists (suc n) ps))) left
-      ≡ goes_on table (entered t m raw hide n ∷ ws) qs left
+      → (expanded (expand table) (body_items m) 0 (first_lists (suc n) ps) >>= λ fulls. put_for t m raw fulls hide >>= λ ts. goes_on_by last table ws (before ts (behind_lists (suc n) ps))) left
+      ≡ goes_on_by last table (entered t m raw hide n ∷ ws) qs left
   goes_first ws t m raw hide n ps qs left h =
       let its = body_items m in
-      let F : List Piece → Args → Work (List Token) = λ l fulls. put_for t m raw fulls hide >>= λ ts. goes_on table ws (before ts (behind_lists n l)) in
+      let F : List Piece → Args → Work A = λ l fulls. put_for t m raw fulls hide >>= λ ts. goes_on_by last table ws (before ts (behind_lists n l)) in
       one_argument table law (is_wanted m 0) ps qs its 1 n (F (behind ps)) left h
       ∙ ap (λ l. then_do (expand table (current qs) left) (λ full. expanded (expand table) its 1 (first_lists n (behind qs)) >>= λ fulls. F l (full ∷ fulls))) (sym (behind_dropped (is_wanted m 0) ps qs h))

@@ -12,9 +12,9 @@ use Rattle.cr_expand.specs.declared.slot.Slot.{Slot}
 use Rattle.cr_expand.specs.declared.slot.Slot.TheVariants as slot
 use Rattle.cr_expand.specs.declared.machine.Machine.{Machine}
 use Rattle.cr_expand.specs.declared.machine.TheConstants.{LIMIT}
-use Rattle.cr_macros.specs.Tokens.{Text, Token, token_of, tokens_of}
+use Rattle.cr_macros.specs.Tokens.{Text, Token, token_of, tokens_of, Work}
+use Rattle.cr_macros.specs.Expansion.{Table}
 use Rattle.cr_macros.specs.Definition.{text_of}
-use Rattle.cr_macros.specs.Expansion.{expand}
 use Rattle.cr_macros.specs.MacroTables.{Macros, table_of}
 use Rattle.cr_expand.specs.HideSets.{Sets, set_at}
 use Rattle.cr_expand.specs.Held.{all_held, IsNamed, IsKnown, AreKnown, AreTables}
@@ -22,17 +22,18 @@ use Rattle.cr_expand.specs.Items.{IsTokenNamed}
 use Rattle.cr_expand.specs.Running.{Stands, before}
 use Rattle.cr_expand.specs.Slots.{pieces, tokens, ends, IsSlotKnown, AreSlotsKnown}
 use Rattle.cr_expand.specs.Feeding.{all_with, IsPutBack}
-use Rattle.cr_expand.specs.Machines.{still, total, IsMachine, IsCallKnown}
+use Rattle.cr_expand.specs.Machines.{total, IsMachine, IsCallKnown}
 use Rattle.cr_expand.specs.Expanders.{runs_by}
 use Rattle.cr_expand.specs.declared.closing.Search.{Search}
 use Rattle.cr_expand.specs.Calls.{IsSearched}
 use Rattle.cr_expand.proofs.Closes.{searched_fed}
 use Rattle.cr_expand.proofs.Going.{current_before}
-use Rattle.cr_expand.proofs.Steps.{front, front_tokens}
+use Rattle.cr_expand.proofs.Steps.{front, front_tokens, left_by}
 use Rattle.cr_expand.proofs.Calling.{tokens_known}
 
-pub fresh_gives : (names : List Text) (macros : Macros) (m : Machine) (more : List Token) → m.slots.items ≡ [] → m.frames.items ≡ [] → still names macros m more ≡ expand (table_of names macros (text_of names m.file)) more (LIMIT - m.used)
-fresh_gives names macros m more e f = rw (e, f) (ap (λ ts. expand (table_of names macros (text_of names m.file)) ts (LIMIT - m.used)) (current_before more [] ∙ append-nil more))
+pub fresh_gives : {A : Type 0} (does : Table → List Token → Work A) (names : List Text) (macros : Macros) (m : Machine) (more : List Token) → m.slots.items ≡ [] → m.frames.items ≡ []
+    → left_by does names macros m more ≡ does (table_of names macros (text_of names m.file)) more (LIMIT - m.used)
+fresh_gives does names macros m more e f = rw (e, f) (ap (λ ts. does (table_of names macros (text_of names m.file)) ts (LIMIT - m.used)) (current_before more [] ∙ append-nil more))
 
 pub fresh_machine : (names : List Text) (macros : Macros) (m : Machine) → m.slots.items ≡ [] → m.frames.items ≡ [] → m.sets ≡ [] ∷ [] → m.used ≤ LIMIT → IsDistinct names → IsNamed names m.notes.from → IsNamed names m.notes.to → IsNamed names m.file
     → IsMachine names macros m
@@ -55,9 +56,9 @@ before_more : (ts more : List Token) → before (ts ++ more) [] ≡ before ts (b
 before_more [] more = refl
 before_more (t ∷ ts) more = ap (λ ps. Stands t ∷ ps) (before_more ts more)
 
-pub fed_gives : (names : List Text) (macros : Macros) (old now : Machine) (fed : List PpTok) (more : List Token) → IsPutBack old.sets old.slots.items now.slots.items fed
-    → now.sets ≡ old.sets → now.frames.items ≡ old.frames.items → now.file ≡ old.file → now.used ≡ old.used → still names macros now more ≡ still names macros old (tokens_of names fed ++ more)
-fed_gives names macros old now fed more (hide, k, e, s) a b c d =
+pub fed_gives : {A : Type 0} (does : Table → List Token → Work A) (names : List Text) (macros : Macros) (old now : Machine) (fed : List PpTok) (more : List Token) → IsPutBack old.sets old.slots.items now.slots.items fed
+    → now.sets ≡ old.sets → now.frames.items ≡ old.frames.items → now.file ≡ old.file → now.used ≡ old.used → left_by does names macros now more ≡ left_by does names macros old (tokens_of names fed ++ more)
+fed_gives does names macros old now fed more (hide, k, e, s) a b c d =
     rw (a, b, c, d, ap (λ l. front names old.sets l more) s ∙ fronts) refl where
       fronts : front names old.sets (old.slots.items ++ tokens (all_with hide fed)) more ≡ front names old.sets old.slots.items (tokens_of names fed ++ more)
       fronts =

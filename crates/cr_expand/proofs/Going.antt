@@ -1,5 +1,5 @@
 -- What waiting calls and pieces still give, use by use.
-use Rattle.std.proofs.Common.{◌≡◌, ℕ, suc, ◌-◌, ◌<◌, ◌≤◌, Bool, true, false, cond, List, [], ◌∷◌, ◌++◌, length, refl, sym, ap, ◌∙◌, arith, append_assoc, append-nil}
+use Rattle.std.proofs.Common.{◌≡◌, ℕ, suc, ◌-◌, ◌<◌, ◌≤◌, Bool, true, false, cond, List, [], ◌∷◌, ◌++◌, length, refl, sym, ap, ◌∙◌, arith, append_assoc, append-nil, Option, Some, None}
 use Rattle.std.specs.Prelude.{nat_lt}
 use Rattle.std.specs.List.{list_any}
 use Rattle.std.proofs.lemmas.Bool.Decides.{nat_tests}
@@ -9,8 +9,12 @@ use Rattle.cr_macros.specs.Tokens.{Text, Token, MacroText, Event, Rule, Cause, O
 use Rattle.cr_macros.specs.Substitution.{Args, Item, body_items, is_full, made}
 use Rattle.cr_macros.specs.Substitution
 use Rattle.cr_macros.specs.Expansion.{Table, Use, Keep, Predefined, Object, Call, Wrong, use_of, by_use, expand, expanded, expanded_if, put_in}
+use Rattle.cr_macros.specs.Uses
+use Rattle.cr_macros.specs.Uses.{is_given, left_behind}
 use Rattle.cr_macros.specs.Laws.{FollowsTheRules}
-use Rattle.cr_expand.specs.Running.{Piece, Stands, Ends, current, behind, before, first_lists, behind_lists, Waiting, put_for, resumes, goes_on, leads}
+use Rattle.cr_expand.specs.Running.{Piece, Stands, Ends, current, behind, before, first_lists, behind_lists, Waiting, put_for, resumes, goes_on_by, goes_on, leads}
+use Rattle.cr_expand.specs.Ahead.{Next, next_on, next_by, next_token}
+use Rattle.cr_expand.proofs.NextRules.{next_follows_the_rules}
 
 pub after_none : {A : Type 0} (r : Answer A) → after [] r ≡ r
 after_none (Gave a left events) = refl
@@ -68,25 +72,42 @@ abbrev pub IsDropped : Bool → List Piece → List Piece → Type 0
 IsDropped true ps qs = qs ≡ ps
 IsDropped false ps qs = qs ≡ Ends ∷ behind ps
 
+pay_done : {A : Type 0} (n left : ℕ) (a : A) → n ≤ left → pay n a left ≡ Gave a (left - n) (Rule ∷ [])
+pay_done n left a h = ap (λ b. cond b (Stopped Over []) (Gave a (left - n) (Rule ∷ []))) (let e : nat_lt left n ≡ false = grind (arith, nat_tests) in e)
+
+pay_over : {A : Type 0} (n left : ℕ) (a : A) → left < n → pay n a left ≡ Stopped Over []
+pay_over n left a h = ap (λ b. cond b (Stopped Over []) (Gave a (left - n) (Rule ∷ []))) (let e : nat_lt left n ≡ true = grind (arith, nat_tests) in e)
+
+-- What is done with the list that no call waits for follows the rules: what a use puts in goes on before what is behind it.
+pub record UsesRules {A : Type 0} (table : Table) (last : List Token → Work A) : Type 0 where
+  pub puts : (t : Token) (rest : List Token) (u : Use) (left : ℕ) → use_of table t rest ≡ u → is_given u ≡ false → last (t ∷ rest) left ≡ (Uses.put_for table t u >>= λ ts. last (ts ++ left_behind rest u)) left
+  pub over : (t : Token) (rest : List Token) (kind : PpKind) (text : Text) (left : ℕ) → use_of table t rest ≡ Predefined kind text → left < 2 → last (t ∷ rest) left ≡ Stopped Over (takes MacroName t ++ [])
+
+-- so it is with expansion
 module _ (table : Table) (law : FollowsTheRules) where
-  -- what goes on once the first list is expanded
-  abbrev then_goes : List Waiting → List Piece → List Token → Work (List Token)
-  then_goes [] ps out = give out
-  then_goes (w ∷ ws) ps out = resumes table (goes_on table ws) w ps out
+  pub by_law : (t : Token) (rest : List Token) (u : Use) (left : ℕ) → use_of table t rest ≡ u → expand table (t ∷ rest) left ≡ by_use (expand table) t rest u left
+  by_law t rest u left e = law table (t ∷ rest) left ∙ ap (λ v. by_use (expand table) t rest v left) e
 
-  goes_is : (ws : List Waiting) (ps : List Piece) (left : ℕ) → goes_on table ws ps left ≡ then_do (expand table (current ps) left) (then_goes ws (behind ps))
-  goes_is [] ps left = sym (then_give (expand table (current ps) left))
-  goes_is (w ∷ ws) ps left = refl
+  puts_by : (t : Token) (rest : List Token) (u : Use) (left : ℕ) → is_given u ≡ false → by_use (expand table) t rest u left ≡ (Uses.put_for table t u >>= λ ts. expand table (ts ++ left_behind rest u)) left
+  puts_by t rest Keep left h = absurd (let q : ⊥ = cc in q)
+  puts_by t rest (Predefined kind text) left h = absurd (let q : ⊥ = cc in q)
+  puts_by t rest (Object m) left h = sym (then_then (Substitution.subst t m [] [] (with_name t.text t.hide) left) put_in (λ ts. expand table (ts ++ rest)))
+  puts_by t rest (Call m args close behind) left h =
+      let hide = with_name t.text (both t.hide close.hide) in
+      let r = expanded (expand table) (body_items m) 0 args left in
+      sym (
+      then_then r (λ fulls. Substitution.subst t m args fulls hide >>= put_in) (λ ts. expand table (ts ++ behind))
+      ∙ then_same r (λ fulls. (Substitution.subst t m args fulls hide >>= put_in) >>= λ ts. expand table (ts ++ behind)) (λ fulls. Substitution.subst t m args fulls hide >>= λ ts. put_in ts >>= λ ts1. expand table (ts1 ++ behind))
+      (λ fulls left1. then_then (Substitution.subst t m args fulls hide left1) put_in (λ ts. expand table (ts ++ behind))))
+  puts_by t rest (Wrong cause) left h = refl
 
-  at_head : (ws : List Waiting) (t : Token) (ps : List Piece) (u : Use) (left : ℕ) → use_of table t (current ps) ≡ u
-      → goes_on table ws (Stands t ∷ ps) left ≡ then_do (by_use (expand table) t (current ps) u left) (then_goes ws (behind ps))
-  at_head ws t ps u left e =
-      goes_is ws (Stands t ∷ ps) left
-      ∙ ap (λ r. then_do r (then_goes ws (behind ps))) (law table (t ∷ current ps) left ∙ ap (λ v. by_use (expand table) t (current ps) v left) e)
-
-  pub goes_wrong : (ws : List Waiting) (t : Token) (ps : List Piece) (cause : Cause) (left : ℕ) → use_of table t (current ps) ≡ Wrong cause
-      → goes_on table ws (Stands t ∷ ps) left ≡ Stopped cause []
-  goes_wrong ws t ps cause left e = at_head ws t ps (Wrong cause) left e
+  pub expand_rules : UsesRules table (expand table)
+  expand_rules = record {
+    puts = λ t rest u left e g. by_law t rest u left e ∙ puts_by t rest u left g;
+    over = λ t rest kind text left e h.
+        by_law t rest (Predefined kind text) left e
+        ∙ ap (λ r. after (takes MacroName t) (then_do r (λ y. expand table rest >>= λ out. give (y ∷ out)))) (pay_over 2 left (made t kind text t.space []) h);
+  }
 
   -- nothing is left
   pub goes_end : (left : ℕ) → goes_on table [] [] left ≡ Gave [] left []
@@ -99,108 +120,22 @@ module _ (table : Table) (law : FollowsTheRules) where
 
   pub outer_keeps : (t : Token) (ps : List Piece) (left : ℕ) → use_of table t (current ps) ≡ Keep
       → goes_on table [] (Stands t ∷ ps) left ≡ leads (t ∷ []) (Rule ∷ []) (goes_on table [] ps left)
-  outer_keeps t ps left e = at_head [] t ps Keep left e ∙ then_give _ ∙ gives_one t (Rule ∷ []) (expand table (current ps) left)
+  outer_keeps t ps left e = by_law t (current ps) Keep left e ∙ gives_one t (Rule ∷ []) (expand table (current ps) left)
 
-  resumes_out : (ws : List Waiting) (w : Waiting) (t : Token) (ps : List Piece) (out : List Token) (left : ℕ)
-      → resumes table (goes_on table ws) w ps (t ∷ out) left ≡ resumes table (goes_on table ws) (with_out w t) ps out left
-  resumes_out ws w t ps out left =
-      ap (λ l. (expanded (expand table) (body_items w.means) (suc (length w.done)) (first_lists w.more ps)
-      >>= λ fulls. put_for w.name w.means w.raw (w.done ++ l ∷ fulls) w.hide
-      >>= λ ts. goes_on table ws (before ts (behind_lists w.more ps))) left) (sym (append_assoc w.out (t ∷ []) out))
-
-  -- a token of an argument's expansion
-  gives_inner : (ws : List Waiting) (w : Waiting) (t : Token) (ps : List Piece) (events : List Event) (r : Answer (List Token))
-      → then_do (after events (then_do r (λ out. give (t ∷ out)))) (resumes table (goes_on table ws) w ps)
-      ≡ leads [] events (then_do r (resumes table (goes_on table ws) (with_out w t) ps))
-  gives_inner ws w t ps events r =
-      after_then events (then_do r (λ out. give (t ∷ out))) (resumes table (goes_on table ws) w ps)
-      ∙ ap (after events) (then_then r (λ out. give (t ∷ out)) (resumes table (goes_on table ws) w ps)
-      ∙ then_same r (λ out. give (t ∷ out) >>= resumes table (goes_on table ws) w ps) (resumes table (goes_on table ws) (with_out w t) ps)
-      (λ out left. after_none (resumes table (goes_on table ws) w ps (t ∷ out) left) ∙ resumes_out ws w t ps out left))
-      ∙ leads_none events _
-
-  pub inner_keeps : (ws : List Waiting) (w : Waiting) (t : Token) (ps : List Piece) (left : ℕ) → use_of table t (current ps) ≡ Keep
-      → goes_on table (w ∷ ws) (Stands t ∷ ps) left ≡ leads [] (Rule ∷ []) (goes_on table (with_out w t ∷ ws) ps left)
-  inner_keeps ws w t ps left e = at_head (w ∷ ws) t ps Keep left e ∙ gives_inner ws w t (behind ps) (Rule ∷ []) (expand table (current ps) left)
-
-  paid : {A B : Type 0} (n left : ℕ) (a : A) (f : A → Work B) → n ≤ left → (pay n a >>= f) left ≡ after (Rule ∷ []) (f a (left - n))
-  paid {B} n left a f h = ap (λ b. then_do {B = B} (cond b (Stopped Over []) (Gave a (left - n) (Rule ∷ []))) f) (let e : nat_lt left n ≡ false = grind (arith, nat_tests) in e)
-
-  not_paid : {A B : Type 0} (n left : ℕ) (a : A) (f : A → Work B) → left < n → (pay n a >>= f) left ≡ Stopped Over []
-  not_paid {B} n left a f h = ap (λ b. then_do {B = B} (cond b (Stopped Over []) (Gave a (left - n) (Rule ∷ []))) f) (let e : nat_lt left n ≡ true = grind (arith, nat_tests) in e)
-
-  predefined_paid : (t one : Token) (ps : List Piece) (left : ℕ) → 2 ≤ left
+  pub predefined_paid : (t one : Token) (ps : List Piece) (left : ℕ) → 2 ≤ left
       → (note (takes MacroName t) one >>= λ x. pay 2 x >>= λ y. expand table (current ps) >>= λ out. give (y ∷ out)) left
       ≡ after (predefined_events t) (then_do (expand table (current ps) (left - 2)) (λ out. give (one ∷ out)))
   predefined_paid t one ps left h =
-      ap (after (takes MacroName t)) (paid 2 left one (λ y. expand table (current ps) >>= λ out. give (y ∷ out)) h)
+      ap (λ r. after (takes MacroName t) (then_do r (λ y. expand table (current ps) >>= λ out. give (y ∷ out)))) (pay_done 2 left one h)
       ∙ after_after (takes MacroName t) (Rule ∷ []) (then_do (expand table (current ps) (left - 2)) (λ out. give (one ∷ out)))
 
   pub outer_predefined : (t : Token) (kind : PpKind) (text : Text) (ps : List Piece) (left : ℕ) → use_of table t (current ps) ≡ Predefined kind text → 2 ≤ left
       → goes_on table [] (Stands t ∷ ps) left ≡ leads (made t kind text t.space [] ∷ []) (predefined_events t) (goes_on table [] ps (left - 2))
   outer_predefined t kind text ps left e h =
-      at_head [] t ps (Predefined kind text) left e ∙ then_give _ ∙ predefined_paid t (made t kind text t.space []) ps left h
+      by_law t (current ps) (Predefined kind text) left e ∙ predefined_paid t (made t kind text t.space []) ps left h
       ∙ gives_one (made t kind text t.space []) (predefined_events t) (expand table (current ps) (left - 2))
 
-  pub inner_predefined : (ws : List Waiting) (w : Waiting) (t : Token) (kind : PpKind) (text : Text) (ps : List Piece) (left : ℕ) → use_of table t (current ps) ≡ Predefined kind text → 2 ≤ left
-      → goes_on table (w ∷ ws) (Stands t ∷ ps) left ≡ leads [] (predefined_events t) (goes_on table (with_out w (made t kind text t.space []) ∷ ws) ps (left - 2))
-  inner_predefined ws w t kind text ps left e h =
-      at_head (w ∷ ws) t ps (Predefined kind text) left e
-      ∙ ap (λ r. then_do r (resumes table (goes_on table ws) w (behind ps))) (predefined_paid t (made t kind text t.space []) ps left h)
-      ∙ gives_inner ws w (made t kind text t.space []) (behind ps) (predefined_events t) (expand table (current ps) (left - 2))
-
-  pub predefined_over : (ws : List Waiting) (t : Token) (kind : PpKind) (text : Text) (ps : List Piece) (left : ℕ) → use_of table t (current ps) ≡ Predefined kind text → left < 2
-      → goes_on table ws (Stands t ∷ ps) left ≡ Stopped Over (takes MacroName t ++ [])
-  predefined_over ws t kind text ps left e h =
-      at_head ws t ps (Predefined kind text) left e
-      ∙ ap (λ r. then_do (after (takes MacroName t) r) (then_goes ws (behind ps))) (not_paid 2 left (made t kind text t.space []) (λ y. expand table (current ps) >>= λ out. give (y ∷ out)) h)
-
-  -- what is put in goes on before the pieces
-  puts_on : (ws : List Waiting) (name : Token) (m : MacroText) (raw full : Args) (hide : List Text) (ps : List Piece) (left : ℕ)
-      → then_do ((Substitution.subst name m raw full hide >>= λ ts. put_in ts >>= λ ts1. expand table (ts1 ++ current ps)) left) (then_goes ws (behind ps))
-      ≡ (put_for name m raw full hide >>= λ ts. goes_on table ws (before ts ps)) left
-  puts_on ws name m raw full hide ps left =
-      let r = Substitution.subst name m raw full hide left in
-      then_then r (λ ts. put_in ts >>= λ ts1. expand table (ts1 ++ current ps)) (then_goes ws (behind ps))
-      ∙ then_same r (λ ts. (put_in ts >>= λ ts1. expand table (ts1 ++ current ps)) >>= then_goes ws (behind ps)) (λ ts. put_in ts >>= λ ts1. goes_on table ws (before ts1 ps))
-      (λ ts left1. then_then (put_in ts left1) (λ ts1. expand table (ts1 ++ current ps)) (then_goes ws (behind ps))
-      ∙ then_same (put_in ts left1) (λ ts1. expand table (ts1 ++ current ps) >>= then_goes ws (behind ps)) (λ ts1. goes_on table ws (before ts1 ps)) (put_before ts))
-      ∙ sym (then_then r (λ ts. put_in ts) (λ ts. goes_on table ws (before ts ps))) where
-        put_before : (ts ts1 : List Token) (left2 : ℕ) → then_do (expand table (ts1 ++ current ps) left2) (then_goes ws (behind ps)) ≡ goes_on table ws (before ts1 ps) left2
-        put_before ts ts1 left2 = sym (
-            goes_is ws (before ts1 ps) left2
-            ∙ ap (λ l. then_do (expand table l left2) (then_goes ws (behind (before ts1 ps)))) (current_before ts1 ps)
-            ∙ ap (λ l. then_do (expand table (ts1 ++ current ps) left2) (then_goes ws l)) (behind_before ts1 ps))
-
-  pub goes_object : (ws : List Waiting) (t : Token) (m : MacroText) (ps : List Piece) (left : ℕ) → use_of table t (current ps) ≡ Object m
-      → goes_on table ws (Stands t ∷ ps) left ≡ (put_for t m [] [] (with_name t.text t.hide) >>= λ ts. goes_on table ws (before ts ps)) left
-  goes_object ws t m ps left e = at_head ws t ps (Object m) left e ∙ puts_on ws t m [] [] (with_name t.text t.hide) ps left
-
-  -- a call is entered: once its arguments are expanded, what is put in goes on before what is behind the call
-  pub goes_call : (ws : List Waiting) (t : Token) (m : MacroText) (args : Args) (close : Token) (ps qs : List Piece) (left : ℕ) → use_of table t (current ps) ≡ Call m args close (current qs) → behind qs ≡ behind ps
-      → goes_on table ws (Stands t ∷ ps) left
-      ≡ (expanded (expand table) (body_items m) 0 args >>= λ fulls. put_for t m args fulls (with_name t.text (both t.hide close.hide)) >>= λ ts. goes_on table ws (before ts qs)) left
-  goes_call ws t m args close ps qs left e h =
-      let hide = with_name t.text (both t.hide close.hide) in
-      let r = expanded (expand table) (body_items m) 0 args left in
-      at_head ws t ps (Call m args close (current qs)) left e
-      ∙ ap (λ l. then_do (by_use (expand table) t (current ps) (Call m args close (current qs)) left) (then_goes ws l)) (sym h)
-      ∙ then_then r (λ fulls. Substitution.subst t m args fulls hide >>= λ ts. put_in ts >>= λ ts1. expand table (ts1 ++ current qs)) (then_goes ws (behind qs))
-      ∙ then_same r (λ fulls. (Substitution.subst t m args fulls hide >>= λ ts. put_in ts >>= λ ts1. expand table (ts1 ++ current qs)) >>= then_goes ws (behind qs))
-      (λ fulls. put_for t m args fulls hide >>= λ ts. goes_on table ws (before ts qs)) (λ fulls left1. puts_on ws t m args fulls hide qs left1)
-
-  -- the last argument of a call is expanded
-  pub goes_last : (ws : List Waiting) (w : Waiting) (ps : List Piece) (left : ℕ) → w.more ≡ 0
-      → goes_on table (w ∷ ws) (Ends ∷ ps) left ≡ (put_for w.name w.means w.raw (w.done ++ w.out ∷ []) w.hide >>= λ ts. goes_on table ws (before ts ps)) left
-  goes_last ws w ps left e =
-      ap (λ r. then_do r (resumes table (goes_on table ws) w ps)) (law table [] left)
-      ∙ after_none (resumes table (goes_on table ws) w ps [] left)
-      ∙ ap (λ n. (expanded (expand table) (body_items w.means) (suc (length w.done)) (first_lists n ps)
-      >>= λ fulls. put_for w.name w.means w.raw (w.done ++ (w.out ++ []) ∷ fulls) w.hide >>= λ ts. goes_on table ws (before ts (behind_lists n ps))) left) e
-      ∙ after_none _
-      ∙ ap (λ l. (put_for w.name w.means w.raw (w.done ++ l ∷ []) w.hide >>= λ ts. goes_on table ws (before ts ps)) left) (append-nil w.out)
-
-  pub one_argument : (b : Bool) (ps qs : List Piece) (its : List Item) (i : ℕ) (n : ℕ) (F : Args → Work (List Token)) (left : ℕ) → IsDropped b ps qs
+  pub one_argument : {B : Type 0} (b : Bool) (ps qs : List Piece) (its : List Item) (i : ℕ) (n : ℕ) (F : Args → Work B) (left : ℕ) → IsDropped b ps qs
       → ((expanded_if (expand table) (current ps) b >>= λ full. expanded (expand table) its i (first_lists n (behind ps)) >>= λ fulls. give (full ∷ fulls)) >>= F) left
       ≡ then_do (expand table (current qs) left) (λ full. expanded (expand table) its i (first_lists n (behind qs)) >>= λ fulls. F (full ∷ fulls))
   one_argument b ps qs its i n F left h =
@@ -217,3 +152,121 @@ module _ (table : Table) (law : FollowsTheRules) where
         by_wanted false qs h =
             ap (λ r. then_do r (λ full. expanded (expand table) its i (first_lists n (behind ps)) >>= λ fulls. F (full ∷ fulls))) (sym (law table [] left))
             ∙ ap (λ l. then_do (expand table (current l) left) (λ full. expanded (expand table) its i (first_lists n (behind l)) >>= λ fulls. F (full ∷ fulls))) (sym h)
+
+-- and with the next token
+module _ (table : Table) where
+  next_by_law : (t : Token) (rest : List Token) (u : Use) (left : ℕ) → use_of table t rest ≡ u → next_token table (t ∷ rest) left ≡ next_by (next_token table) table t rest u left
+  next_by_law t rest u left e = next_follows_the_rules table (t ∷ rest) left ∙ ap (λ v. next_by (next_token table) table t rest v left) e
+
+  pub next_token_rules : UsesRules table (next_token table)
+  next_token_rules = record {
+    puts = λ t rest u left e g. next_by_law t rest u left e ∙ ap (λ b. (Uses.put_for table t u >>= λ ts. next_on (next_token table) b ts (left_behind rest u)) left) g;
+    over = λ t rest kind text left e h.
+        next_by_law t rest (Predefined kind text) left e
+        ∙ ap (λ r. then_do (after (takes MacroName t) r) (λ ts. next_on (next_token table) true ts rest)) (pay_over 2 left (made t kind text t.space [] ∷ []) h);
+  }
+
+  pub next_end : (left : ℕ) → next_token table [] left ≡ Gave None left []
+  next_end left = next_follows_the_rules table [] left
+
+  pub next_keeps : (t : Token) (rest : List Token) (left : ℕ) → use_of table t rest ≡ Keep → next_token table (t ∷ rest) left ≡ Gave (Some (record { tokens = t ∷ []; rest = rest })) left (Rule ∷ [])
+  next_keeps t rest left e = next_by_law t rest Keep left e
+
+  pub next_predefined : (t : Token) (kind : PpKind) (text : Text) (rest : List Token) (left : ℕ) → use_of table t rest ≡ Predefined kind text → 2 ≤ left
+      → next_token table (t ∷ rest) left ≡ Gave (Some (record { tokens = made t kind text t.space [] ∷ []; rest = rest })) (left - 2) (predefined_events t)
+  next_predefined t kind text rest left e h =
+      next_by_law t rest (Predefined kind text) left e
+      ∙ ap (λ r. then_do (after (takes MacroName t) r) (λ ts. next_on (next_token table) true ts rest)) (pay_done 2 left (made t kind text t.space [] ∷ []) h)
+      ∙ ap (Gave (Some (record { tokens = made t kind text t.space [] ∷ []; rest = rest })) (left - 2)) (append-nil (predefined_events t))
+
+module _ {A : Type 0} (table : Table) (law : FollowsTheRules) (last : List Token → Work A) (rules : UsesRules table last) where
+  -- what is put in goes on before the pieces behind
+  goes_put : (ws : List Waiting) (t : Token) (u : Use) (ps qs : List Piece) (left : ℕ) → use_of table t (current ps) ≡ u → is_given u ≡ false → left_behind (current ps) u ≡ current qs → behind qs ≡ behind ps
+      → goes_on_by last table ws (Stands t ∷ ps) left ≡ (Uses.put_for table t u >>= λ ts. goes_on_by last table ws (before ts qs)) left
+  goes_put [] t u ps qs left e g l b =
+      rules.puts t (current ps) u left e g
+      ∙ then_same (Uses.put_for table t u left) (λ ts. last (ts ++ left_behind (current ps) u)) (λ ts. last (current (before ts qs)))
+      (λ ts left1. ap (λ x. last x left1) (ap (λ x. ts ++ x) l ∙ sym (current_before ts qs)))
+  goes_put (w ∷ ws) t u ps qs left e g l b =
+      let go = resumes table (goes_on_by last table ws) w in
+      ap (λ r. then_do r (go (behind ps))) ((expand_rules table law).puts t (current ps) u left e g)
+      ∙ then_then (Uses.put_for table t u left) (λ ts. expand table (ts ++ left_behind (current ps) u)) (go (behind ps))
+      ∙ then_same (Uses.put_for table t u left) (λ ts. expand table (ts ++ left_behind (current ps) u) >>= go (behind ps)) (λ ts. goes_on_by last table (w ∷ ws) (before ts qs))
+      (λ ts left1. ap (λ x. then_do (expand table x left1) (go (behind ps))) (ap (λ x. ts ++ x) l ∙ sym (current_before ts qs))
+      ∙ ap (λ x. then_do (expand table (current (before ts qs)) left1) (go x)) (sym b ∙ sym (behind_before ts qs)))
+
+  pub goes_wrong : (ws : List Waiting) (t : Token) (ps : List Piece) (cause : Cause) (left : ℕ) → use_of table t (current ps) ≡ Wrong cause
+      → goes_on_by last table ws (Stands t ∷ ps) left ≡ Stopped cause []
+  goes_wrong ws t ps cause left e = goes_put ws t (Wrong cause) ps ps left e refl refl refl
+
+  pub goes_object : (ws : List Waiting) (t : Token) (m : MacroText) (ps : List Piece) (left : ℕ) → use_of table t (current ps) ≡ Object m
+      → goes_on_by last table ws (Stands t ∷ ps) left ≡ (put_for t m [] [] (with_name t.text t.hide) >>= λ ts. goes_on_by last table ws (before ts ps)) left
+  goes_object ws t m ps left e = goes_put ws t (Object m) ps ps left e refl refl refl
+
+  -- a call is entered: once its arguments are expanded, what is put in goes on before what is behind the call
+  pub goes_call : (ws : List Waiting) (t : Token) (m : MacroText) (args : Args) (close : Token) (ps qs : List Piece) (left : ℕ) → use_of table t (current ps) ≡ Call m args close (current qs) → behind qs ≡ behind ps
+      → goes_on_by last table ws (Stands t ∷ ps) left
+      ≡ (expanded (expand table) (body_items m) 0 args >>= λ fulls. put_for t m args fulls (with_name t.text (both t.hide close.hide)) >>= λ ts. goes_on_by last table ws (before ts qs)) left
+  goes_call ws t m args close ps qs left e h =
+      goes_put ws t (Call m args close (current qs)) ps qs left e refl refl h
+      ∙ then_then (expanded (expand table) (body_items m) 0 args left) (λ fulls. put_for t m args fulls (with_name t.text (both t.hide close.hide))) (λ ts. goes_on_by last table ws (before ts qs))
+
+  pub predefined_over : (ws : List Waiting) (t : Token) (kind : PpKind) (text : Text) (ps : List Piece) (left : ℕ) → use_of table t (current ps) ≡ Predefined kind text → left < 2
+      → goes_on_by last table ws (Stands t ∷ ps) left ≡ Stopped Over (takes MacroName t ++ [])
+  predefined_over [] t kind text ps left e h = rules.over t (current ps) kind text left e h
+  predefined_over (w ∷ ws) t kind text ps left e h = ap (λ r. then_do r (resumes table (goes_on_by last table ws) w (behind ps))) ((expand_rules table law).over t (current ps) kind text left e h)
+
+  resumes_out : (ws : List Waiting) (w : Waiting) (t : Token) (ps : List Piece) (out : List Token) (left : ℕ)
+      → resumes table (goes_on_by last table ws) w ps (t ∷ out) left ≡ resumes table (goes_on_by last table ws) (with_out w t) ps out left
+  resumes_out ws w t ps out left =
+      ap (λ l. (expanded (expand table) (body_items w.means) (suc (length w.done)) (first_lists w.more ps)
+      >>= λ fulls. put_for w.name w.means w.raw (w.done ++ l ∷ fulls) w.hide
+      >>= λ ts. goes_on_by last table ws (before ts (behind_lists w.more ps))) left) (sym (append_assoc w.out (t ∷ []) out))
+
+  -- a token of an argument's expansion
+  gives_inner : (ws : List Waiting) (w : Waiting) (t : Token) (ps : List Piece) (events : List Event) (r : Answer (List Token))
+      → then_do (after events (then_do r (λ out. give (t ∷ out)))) (resumes table (goes_on_by last table ws) w ps)
+      ≡ after events (then_do r (resumes table (goes_on_by last table ws) (with_out w t) ps))
+  gives_inner ws w t ps events r =
+      after_then events (then_do r (λ out. give (t ∷ out))) (resumes table (goes_on_by last table ws) w ps)
+      ∙ ap (after events) (then_then r (λ out. give (t ∷ out)) (resumes table (goes_on_by last table ws) w ps)
+      ∙ then_same r (λ out. give (t ∷ out) >>= resumes table (goes_on_by last table ws) w ps) (resumes table (goes_on_by last table ws) (with_out w t) ps)
+      (λ out left. after_none (resumes table (goes_on_by last table ws) w ps (t ∷ out) left) ∙ resumes_out ws w t ps out left))
+
+  pub inner_keeps : (ws : List Waiting) (w : Waiting) (t : Token) (ps : List Piece) (left : ℕ) → use_of table t (current ps) ≡ Keep
+      → goes_on_by last table (w ∷ ws) (Stands t ∷ ps) left ≡ after (Rule ∷ []) (goes_on_by last table (with_out w t ∷ ws) ps left)
+  inner_keeps ws w t ps left e =
+      ap (λ r. then_do r (resumes table (goes_on_by last table ws) w (behind ps))) (by_law table law t (current ps) Keep left e) ∙ gives_inner ws w t (behind ps) (Rule ∷ []) (expand table (current ps) left)
+
+  pub inner_predefined : (ws : List Waiting) (w : Waiting) (t : Token) (kind : PpKind) (text : Text) (ps : List Piece) (left : ℕ) → use_of table t (current ps) ≡ Predefined kind text → 2 ≤ left
+      → goes_on_by last table (w ∷ ws) (Stands t ∷ ps) left ≡ after (predefined_events t) (goes_on_by last table (with_out w (made t kind text t.space []) ∷ ws) ps (left - 2))
+  inner_predefined ws w t kind text ps left e h =
+      ap (λ r. then_do r (resumes table (goes_on_by last table ws) w (behind ps))) (by_law table law t (current ps) (Predefined kind text) left e ∙ predefined_paid table law t (made t kind text t.space []) ps left h)
+      ∙ gives_inner ws w (made t kind text t.space []) (behind ps) (predefined_events t) (expand table (current ps) (left - 2))
+
+  -- the last argument of a call is expanded
+  pub goes_last : (ws : List Waiting) (w : Waiting) (ps : List Piece) (left : ℕ) → w.more ≡ 0
+      → goes_on_by last table (w ∷ ws) (Ends ∷ ps) left ≡ (put_for w.name w.means w.raw (w.done ++ w.out ∷ []) w.hide >>= λ ts. goes_on_by last table ws (before ts ps)) left
+  goes_last ws w ps left e =
+      ap (λ r. then_do r (resumes table (goes_on_by last table ws) w ps)) (law table [] left)
+      ∙ after_none (resumes table (goes_on_by last table ws) w ps [] left)
+      ∙ ap (λ n. (expanded (expand table) (body_items w.means) (suc (length w.done)) (first_lists n ps)
+      >>= λ fulls. put_for w.name w.means w.raw (w.done ++ (w.out ++ []) ∷ fulls) w.hide >>= λ ts. goes_on_by last table ws (before ts (behind_lists n ps))) left) e
+      ∙ after_none _
+      ∙ ap (λ l. (put_for w.name w.means w.raw (w.done ++ l ∷ []) w.hide >>= λ ts. goes_on_by last table ws (before ts ps)) left) (append-nil w.out)
+
+-- What is done, by the macros, with the list that no call waits for.
+pub record Outermost (A : Type 0) : Type 0 where
+  pub does : Table → List Token → Work A
+  pub rules : (table : Table) → UsesRules table (does table)
+
+-- it is expanded
+abbrev pub expanding : FollowsTheRules → Outermost (List Token)
+expanding law = record { does = expand; rules = λ table. expand_rules table law }
+
+-- or its next token is found
+abbrev pub seeking : Outermost (Option Next)
+seeking = record { does = next_token; rules = next_token_rules }
+
+abbrev pub gave_next : Token → List Token → ℕ → List Event → Answer (Option Next)
+gave_next t rest left events = Gave (Some (record { tokens = t ∷ []; rest = rest })) left events

@@ -14,6 +14,8 @@ pub mod Joins
 pub mod Marks
 pub mod Substitutes
 pub mod Headings
+pub mod Leaving
+pub mod NextRules
 pub mod Going
 pub mod Entering
 pub mod Wholes

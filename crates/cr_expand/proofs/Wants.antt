@@ -22,8 +22,8 @@ use Rattle.cr_expand.specs.Running.{current, wants_more, needs_more}
 use Rattle.cr_expand.specs.Slots.{pieces, ended, ends}
 use Rattle.cr_expand.specs.Turns.{IsNext, IsWanting}
 use Rattle.cr_expand.specs.Wanted.{is_wanted}
-use Rattle.cr_expand.specs.Machines.{total, still, IsMachine, IsEntered, IsArgumentEnd, IsWantedAt, IsTurnWanted}
-use Rattle.cr_expand.proofs.Going.{goes_end}
+use Rattle.cr_expand.specs.Machines.{total, still, ahead, IsMachine, IsEntered, IsArgumentEnd, IsWantedAt, IsTurnWanted}
+use Rattle.cr_expand.proofs.Going.{goes_end, next_end}
 use Rattle.cr_expand.proofs.Calling.{total_last, ends_begun, ends_lists}
 
 pub next_finish : (names : List Text) (sets : Sets) (macros : Macros) (file : Text) (more : List Token) (slots : List Slot) → IsNext names sets macros file slots more turn.End → slots ≡ []
@@ -41,6 +41,9 @@ no_calls names macros m k e = no_call m.frames.items (sym e ∙ k.ends)
 pub end_gives : (law : FollowsTheRules) (names : List Text) (macros : Macros) (m : Machine) (more : List Token) → IsMachine names macros m → m.slots.items ≡ [] → more ≡ [] → still names macros m more ≡ Gave [] (LIMIT - m.used) []
 end_gives law names macros m more k e n =
     rw (e, n, no_calls names macros m k (ap ends e)) (goes_end (table_of names macros (text_of names m.file)) law (LIMIT - m.used))
+
+pub end_ahead : (names : List Text) (macros : Macros) (m : Machine) (more : List Token) → IsMachine names macros m → m.slots.items ≡ [] → more ≡ [] → ahead names macros m more ≡ Gave None (LIMIT - m.used) []
+end_ahead names macros m more k e n = rw (e, n, no_calls names macros m k (ap ends e)) (next_end (table_of names macros (text_of names m.file)) (LIMIT - m.used))
 
 pub wanting_end : (names : List Text) (sets : Sets) (finished : Bool) (slots : List Slot) (f : Held → List Token → Use) → IsWanting names sets finished slots f turn.End → finished ≡ true
 wanting_end names sets finished [] f k = k

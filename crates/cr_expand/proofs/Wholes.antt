@@ -146,7 +146,7 @@ put_kept name m raw full hide left =
     ∙ ap (λ r. then_do (after (takes MacroName name ++ dropped its 0 kept_raw) (then_do r (λ ps. all_pasted name None false ps >>= λ ts. give (placed name hide ts)))) (λ ts. put_in ts))
     (all_filled_kept name raw full (is_whole m) its left (λ k e. or_left (list_any (is_as_is k) its) (not (list_any (is_use k) its)) e))
 
-pub put_kept_then : (name : Token) (m : MacroText) (raw some : Args) (hide : List Text) (r : Answer Args) (go : List Token → Work (List Token)) → some ≡ all_kept (is_whole m) 0 raw
+pub put_kept_then : {B : Type 0} (name : Token) (m : MacroText) (raw some : Args) (hide : List Text) (r : Answer Args) (go : List Token → Work B) → some ≡ all_kept (is_whole m) 0 raw
     → then_do r (λ fulls. put_for name m raw fulls hide >>= go) ≡ then_do r (λ fulls. put_for name m some fulls hide >>= go)
 put_kept_then name m raw some hide r go e =
     then_same r (λ fulls. put_for name m raw fulls hide >>= go) (λ fulls. put_for name m some fulls hide >>= go)

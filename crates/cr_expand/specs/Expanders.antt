@@ -19,7 +19,8 @@ use Rattle.cr_macros.specs.MacroTables.{Macros, table_of}
 use Rattle.cr_expand.specs.HideSets.{Grows}
 use Rattle.cr_expand.specs.Held.{IsNamed, watch_of, noted}
 use Rattle.cr_expand.specs.Items.{IsTokenNamed}
-use Rattle.cr_expand.specs.Machines.{still, IsMachine, IsSameRun, IsStep}
+use Rattle.cr_expand.specs.Ahead.{next_token}
+use Rattle.cr_expand.specs.Machines.{still, ahead, IsMachine, IsSameRun, IsStep}
 
 -- What is left of the expansion, where these tokens come behind what was fed.
 abbrev pub left_over : List Text → Macros → Expander → List Token → Answer (List Token)
@@ -33,9 +34,11 @@ runs_by names macros m search (Some fault) = Unit {0}
 abbrev pub IsRunning : List Text → Macros → Expander → Type 0
 IsRunning names macros e = runs_by names macros e.machine e.search e.fault
 
--- A machine that was fed nothing: what is left is the expansion of what comes, with the work that is left.
+-- A machine that was fed nothing: what is left is the expansion of what comes, with the work that is left, and its next token is
+-- that of what comes.
 pub record IsFresh (old new file : Name) (work : ℕ) (e : Expander) : Type 0 where
   pub gives : (names : List Text) (macros : Macros) (more : List Token) → left_over names macros e more ≡ expand (table_of names macros (text_of names file)) more (LIMIT - work)
+  pub finds : (names : List Text) (macros : Macros) (more : List Token) → ahead names macros e.machine more ≡ next_token (table_of names macros (text_of names file)) more (LIMIT - work)
   pub running : (names : List Text) (macros : Macros) → IsDistinct names → IsNamed names old → IsNamed names new → IsNamed names file → IsRunning names macros e
   pub seen : e.machine.notes.seen.items ≡ []
   pub watched : (e.machine.notes.from ≡ old) × (e.machine.notes.to ≡ new)
@@ -46,6 +49,7 @@ pub record IsFresh (old new file : Name) (work : ℕ) (e : Expander) : Type 0 wh
 -- Tokens were fed: they come before what else will come, and nothing else is changed.
 pub record IsFed (old now : Expander) (tokens : List PpTok) : Type 0 where
   pub gives : (names : List Text) (macros : Macros) (more : List Token) → left_over names macros now more ≡ left_over names macros old (tokens_of names tokens ++ more)
+  pub finds : (names : List Text) (macros : Macros) (more : List Token) → ahead names macros now.machine more ≡ ahead names macros old.machine (tokens_of names tokens ++ more)
   pub running : (names : List Text) (macros : Macros) → IsRunning names macros old → All (IsTokenNamed names) tokens → IsRunning names macros now
   pub seen : now.machine.notes.seen.items ≡ old.machine.notes.seen.items
   pub used : now.machine.used ≡ old.machine.used

@@ -6,6 +6,7 @@ pub mod Pasting
 pub mod Placing
 pub mod Heading
 pub mod Running
+pub mod Ahead
 pub mod Slots
 pub mod Frames
 pub mod Calls

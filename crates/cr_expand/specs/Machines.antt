@@ -18,13 +18,14 @@ use Rattle.cr_expand.specs.declared.machine.Machine.{Machine}
 use Rattle.cr_expand.specs.declared.machine.ExpStep.{ExpStep}
 use Rattle.cr_expand.specs.declared.machine.ExpStep.TheVariants as step
 use Rattle.cr_expand.specs.declared.machine.TheConstants.{LIMIT}
-use Rattle.cr_macros.specs.Tokens.{Text, Token, token_of, MacroText, Event, Rule, Taken, Answer, Gave, Work, takes, with_name, both}
+use Rattle.cr_macros.specs.Tokens.{Text, Token, token_of, MacroText, Event, Rule, Taken, Answer, Gave, Work, after, takes, with_name, both}
 use Rattle.cr_macros.specs.Definition.{text_of}
 use Rattle.cr_macros.specs.MacroTables.{Macros, macro_named, macro_text, table_of}
 use Rattle.cr_expand.specs.HideSets.{Sets, Grows}
 use Rattle.cr_expand.specs.Held.{held, all_held, all_args, hidden, IsKnown, AreKnown, IsNamed, AreTables, Faults, watch_of, noted}
 use Rattle.cr_expand.specs.Frames.{Call}
-use Rattle.cr_expand.specs.Running.{Waiting, current, before, goes_on, leads, put_for, needs_more}
+use Rattle.cr_expand.specs.Ahead.{Next, next_token}
+use Rattle.cr_expand.specs.Running.{Waiting, current, before, goes_on_by, goes_on, leads, put_for, needs_more}
 use Rattle.cr_expand.specs.Slots.{pieces, tokens, ends, ended, begun, AreSlotsKnown}
 use Rattle.cr_expand.specs.Wanted.{is_wanted, is_whole, all_kept}
 use Rattle.cr_expand.specs.Calls.{IsAmong}
@@ -59,6 +60,12 @@ total (c ∷ cs) = 1 + c.more + total cs
 abbrev pub still : List Text → Macros → Machine → List Token → Answer (List Token)
 still names macros m more =
     goes_on (table_of names macros (text_of names m.file)) (waiting names macros m.sets m.frames.items) (pieces names m.sets m.slots.items ++ before more []) (LIMIT - m.used)
+
+-- What it gives next, up to the next token of the result.
+abbrev pub ahead : List Text → Macros → Machine → List Token → Answer (Option Next)
+ahead names macros m more =
+    goes_on_by (next_token (table_of names macros (text_of names m.file))) (table_of names macros (text_of names m.file)) (waiting names macros m.sets m.frames.items)
+    (pieces names m.sets m.slots.items ++ before more []) (LIMIT - m.used)
 
 -- The tables hold what the call is made of.
 pub record IsCallHeld (names : List Text) (macros : Macros) (sets : Sets) (c : Call) : Type 0 where
@@ -236,10 +243,26 @@ IsStep names new macros old now more step.More = IsUse names new macros old now 
 IsStep names new macros old now more step.Hungry = (new ≡ names) × (now ≡ old)
 IsStep names new macros old now more step.End = (new ≡ names) × (now ≡ old) × (still names macros old more ≡ Gave [] (LIMIT - old.used) [])
 
+-- The same step, by the uses of rules up to the next token of the result: one that gives it leaves the list behind it to be
+-- expanded, and one that gives none leads to what comes next.
+abbrev pub IsAhead : List Text → List Text → Macros → Machine → Machine → List Token → ExpStep → Type 0
+IsAhead names new macros old now more (step.Out t) =
+    (hide : List Text) × (u : IsUse names new macros old now more (token_of new hide t ∷ [])) × (rest : List Token)
+    × (ahead names macros old more ≡ Gave (Some (record { tokens = token_of new hide t ∷ []; rest = rest })) (LIMIT - now.used) u.events)
+    × (ahead new macros now more ≡ next_token (table_of new macros (text_of new now.file)) rest (LIMIT - now.used))
+IsAhead names new macros old now more step.More = (u : IsUse names new macros old now more []) × (ahead names macros old more ≡ after u.events (ahead new macros now more))
+IsAhead names new macros old now more step.Hungry = (new ≡ names) × (now ≡ old)
+IsAhead names new macros old now more step.End = (new ≡ names) × (now ≡ old) × (ahead names macros old more ≡ Gave None (LIMIT - old.used) [])
+
 -- A call was entered or an argument ended, by which nothing is given; or a step was made.
 abbrev pub IsTurnStep : List Text → List Text → Macros → Machine → Machine → List Token → Option ExpStep → Type 0
-IsTurnStep names new macros old now more None = (still names macros old more ≡ still new macros now more) × (now.notes.seen.items ≡ old.notes.seen.items)
-IsTurnStep names new macros old now more (Some s) = IsStep names new macros old now more s
+IsTurnStep names new macros old now more None =
+    (still names macros old more ≡ still new macros now more) × (now.notes.seen.items ≡ old.notes.seen.items) × (ahead names macros old more ≡ ahead new macros now more)
+IsTurnStep names new macros old now more (Some s) = IsStep names new macros old now more s × IsAhead names new macros old now more s
+
+-- The fault is met in the expansion, and before the next token of its result.
+abbrev pub BothFault : List Text → Macros → Machine → List Token → ExpandFault → Type 0
+BothFault names macros m more e = Faults (still names macros m more) e × Faults (ahead names macros m more) e
 
 -- A token is wanted only where no call waits, no more were said to be the last, and the next use can't be told without it; the
 -- end is only where all is used.
@@ -254,3 +277,10 @@ IsWantedAt names macros m step.End = (m.finished ≡ true) × (m.frames.items �
 abbrev pub IsTurnWanted : List Text → List Text → Macros → Machine → Machine → Option ExpStep → Type 0
 IsTurnWanted names new macros old now None = (0 < ends now.slots.items) × (new ≡ names)
 IsTurnWanted names new macros old now (Some s) = IsWantedAt names macros old s
+
+-- The token of the result that is given has a name that the table holds.
+abbrev pub IsOutKnown : List Text → ExpStep → Type 0
+IsOutKnown names (step.Out t) = IsNamed names t.text
+IsOutKnown names step.More = Unit {0}
+IsOutKnown names step.Hungry = Unit {0}
+IsOutKnown names step.End = Unit {0}

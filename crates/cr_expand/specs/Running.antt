@@ -55,17 +55,21 @@ put_for name m raw full hide = subst name m raw full hide >>= λ ts. put_in ts
 
 -- A call goes on with what is left of its argument's expansion and with the pieces behind that argument: the
 -- other arguments are expanded, what is put in stands before what is behind the call, and that goes on.
-abbrev pub resumes : Table → (List Piece → Work (List Token)) → Waiting → List Piece → List Token → Work (List Token)
+abbrev pub resumes : {A : Type 0} → Table → (List Piece → Work A) → Waiting → List Piece → List Token → Work A
 resumes table go w ps out =
     expanded (expand table) (body_items w.means) (suc (length w.done)) (first_lists w.more ps)
     >>= λ fulls. put_for w.name w.means w.raw (w.done ++ (w.out ++ out) ∷ fulls) w.hide
     >>= λ ts. go (before ts (behind_lists w.more ps))
 
--- What the calls, the innermost first, and the pieces still give: the first list is expanded, then the innermost call
--- goes on, and so on outwards.
+-- What the calls, the innermost first, and the pieces still give, where `last` is done with the list that no call waits for:
+-- the first list is expanded, then the innermost call goes on, and so on outwards.
+abbrev pub goes_on_by : {A : Type 0} → (List Token → Work A) → Table → List Waiting → List Piece → Work A
+goes_on_by last table [] ps = last (current ps)
+goes_on_by last table (w ∷ ws) ps = expand table (current ps) >>= resumes table (goes_on_by last table ws) w (behind ps)
+
+-- that list is expanded too
 abbrev pub goes_on : Table → List Waiting → List Piece → Work (List Token)
-goes_on table [] ps = expand table (current ps)
-goes_on table (w ∷ ws) ps = expand table (current ps) >>= resumes table (goes_on table ws) w (behind ps)
+goes_on table = goes_on_by (expand table) table
 
 -- an answer that comes behind these tokens and events
 abbrev pub leads : List Token → List Event → Answer (List Token) → Answer (List Token)

@@ -1,11 +1,13 @@
 //! The machine of macro expansion, which is fed and stepped.
-ghost use Rattle.std.specs.Prelude.{◌≡◌, ◌<◌, ◌≤◌, ◌^◌, ◌++◌, [], List, OnOk, OnErr, IfOk, IfErr, Some, None, Err, length, map, true, false};
+ghost use Rattle.std.specs.Prelude.{◌≡◌, ◌<◌, ◌≤◌, ◌^◌, ◌+◌, ◌++◌, [], List, OnOk, OnErr, IfOk, IfErr, Some, None, Err, length, map, true, false};
 ghost use Rattle.cr_macros.specs.declared.fault.ExpandFault.{ExpandFault as TheFault};
 ghost use Rattle.cr_macros.specs.Tokens.{Text, Token};
 ghost use Rattle.cr_macros.specs.MacroTables.{Macros};
+ghost use Rattle.cr_expand.specs.HideSets.{Grows};
 ghost use Rattle.cr_expand.specs.Held.{Faults};
+ghost use Rattle.cr_expand.specs.Ahead.{NextFollowsTheRules};
 ghost use Rattle.cr_expand.specs.Feeding.{IsPutBack};
-ghost use Rattle.cr_expand.specs.Machines.{AreMacros, IsStep, IsWantedAt, IsSameRun};
+ghost use Rattle.cr_expand.specs.Machines.{AreMacros, IsStep, IsAhead, IsWantedAt, IsOutKnown, IsSameRun, ahead};
 ghost use Rattle.cr_expand.specs.Expanders.{left_over, IsRunning, IsFresh, IsFed, Steps, GivesTheExpansion};
 
 use crate::closing::Search;
@@ -94,9 +96,12 @@ impl Expander {
     ///
     /// It answers `Out` exactly where that gives a token of the result, and `More` where it gives
     /// none; `Hungry` where it needs a token that wasn't fed, and `finish` wasn't called; `End` where
-    /// all is given after `finish`. The macros are those of the steps before. `ArgCount`,
-    /// `OpenCall`, `BadPaste` and `LimitMacros` come where expansion meets them; after a fault it
-    /// answers that fault again.
+    /// all is given after `finish`. So the steps up to an `Out` are the uses of rules up to the next
+    /// token of the result, and what is left behind that token is a list that is expanded from then
+    /// on. The macros are those of the steps before. A step adds at most 67,108,864 names, and keeps
+    /// those that are there, whatever it answers; a token that it gives has one of the names.
+    /// `ArgCount`, `OpenCall`, `BadPaste` and `LimitMacros` come where expansion meets them; after a
+    /// fault it answers that fault again.
     pub fn step(
         &mut self,
         macros: &MacroTable,
@@ -108,10 +113,16 @@ impl Expander {
         ensures step { self.old.fault ≡ None → IfOk result (λ s. Steps names.old names.new macros.now self.old self.new s) }
         ensures wanted { self.old.fault ≡ None → IfOk result (λ s. IsWantedAt names.old macros.now self.old.machine s) }
         ensures faults { self.old.fault ≡ None → (more : List Token) → (self.old.machine.finished ≡ true → more ≡ []) → IfErr result (λ e. Faults (left_over names.old macros.now self.old more) e) }
+        ensures ahead { self.old.fault ≡ None → (more : List Token) → (self.old.machine.finished ≡ true → more ≡ []) → IfOk result (λ s. IsAhead names.old names.new macros.now self.old.machine self.new.machine more s) }
+        ensures ahead_faults { self.old.fault ≡ None → (more : List Token) → (self.old.machine.finished ≡ true → more ≡ []) → IfErr result (λ e. Faults (ahead names.old macros.now self.old.machine more) e) }
         ensures kept { IfErr result (λ e. self.new.fault ≡ Some e) }
         ensures stuck { (fault : TheFault) → self.old.fault ≡ Some fault → (result ≡ Err fault) × (self.new ≡ self.old) × (names.new ≡ names.old) }
         ensures running { IsRunning names.new macros.now self.new }
         ensures fault { OnOk result (self.new.fault ≡ None) }
+        ensures named { IfOk result (λ s. IsOutKnown names.new s) }
+        ensures grows { Grows names.old names.new }
+        ensures names { OnOk result (length names.new ≤ length names.old + 2 ^ 26) }
+        ensures limit { self.old.machine.used ≤ LIMIT → self.new.machine.used ≤ LIMIT }
     {
         if let Some(fault) = self.fault {
             return Err(fault);
@@ -140,7 +151,7 @@ impl Expander {
         &self.machine.notes.seen
     }
 
-    /// The macro work used so far, with that before.
+    /// The macro work used so far, with that before: at most 4,194,304.
     pub fn work(&self) -> u32
         ensures { result ≡ self.now.machine.used }
     {
@@ -153,4 +164,10 @@ impl Expander {
 /// and used their macro work. It does no work.
 pub fn expansion_is_however_it_is_fed()
     ensures { GivesTheExpansion }
+{}
+
+/// The law that the next token of an expansion's result is what the rules of expansion say of it
+/// (C11 6.10.3): the uses up to the first that gives a token of the result. It does no work.
+pub fn the_next_token_follows_the_rules()
+    ensures { NextFollowsTheRules }
 {}

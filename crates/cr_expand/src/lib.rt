@@ -28,7 +28,7 @@ mod turn;
 mod wanted;
 
 pub use cr_macros::{ExpandFault, Macro, MacroTable, Role, Seen};
-pub use expander::{Expander, expansion_is_however_it_is_fed};
+pub use expander::{Expander, expansion_is_however_it_is_fed, the_next_token_follows_the_rules};
 pub use good_macros::defined_macros_are_known;
 pub use machine::ExpStep;
 

@@ -1,7 +1,7 @@
 //! The uses of the rules of macro expansion, one after another.
-ghost use Rattle.std.specs.Prelude.{◌≡◌, ◌<◌, ◌≤◌, ◌+◌, ◌-◌, ◌^◌, ◌*◌, ◌++◌, ◌∷◌, [], List, IfOk, IfErr, OnOk, length, map, drop, ◌⊎◌, MatchResult, if◌then◌else◌, true, None};
+ghost use Rattle.std.specs.Prelude.{◌≡◌, ◌<◌, ◌≤◌, ◌+◌, ◌-◌, ◌^◌, ◌*◌, ◌++◌, ◌∷◌, [], List, IfOk, IfErr, IfSome, OnOk, length, map, drop, ◌⊎◌, MatchResult, if◌then◌else◌, true, None};
 ghost use Rattle.std.specs.List.{All};
-ghost use Rattle.cr_macros.specs.Tokens.{Token, with_name};
+ghost use Rattle.cr_macros.specs.Tokens.{Text, Token, with_name};
 ghost use Rattle.cr_macros.specs.MacroTables.{macro_text};
 ghost use Rattle.cr_expand.specs.Held.{held, hidden, all_args, IsKnown, AreKnown, IsNamed, AreTables, Faults};
 ghost use Rattle.cr_expand.specs.Items.{IsMacroKnown};
@@ -17,7 +17,7 @@ ghost use Rattle.cr_expand.specs.Slots.{tokens, AreSlotsKnown};
 ghost use Rattle.cr_expand.specs.Calls.{IsCallAt, IsSearched};
 ghost use Rattle.cr_expand.specs.HideSets.{Grows};
 ghost use Rattle.cr_expand.specs.Wanted.{is_marked_whole};
-ghost use Rattle.cr_expand.specs.Machines.{IsGiven, IsPut, IsSameRun, IsSameElsewhere, IsPredefinedUse, IsClosedAt, IsEntered, IsCallHeld, IsMachine, IsArgumentEnd, IsArgumentFault, BeginsWithEnd, AreMacros, put_for_call, AreTaken, IsMiscounted, IsTurnStep, IsTurnWanted, IsStep, IsWantedAt, still};
+ghost use Rattle.cr_expand.specs.Machines.{IsGiven, IsPut, IsSameRun, IsSameElsewhere, IsPredefinedUse, IsClosedAt, IsEntered, IsCallHeld, IsMachine, IsArgumentEnd, IsArgumentFault, BeginsWithEnd, AreMacros, put_for_call, AreTaken, IsMiscounted, IsTurnStep, IsTurnWanted, IsStep, IsAhead, BothFault, IsWantedAt, IsOutKnown};
 
 use crate::closing::Search;
 use crate::frame::Frame;
@@ -88,6 +88,7 @@ fn most_commas(variadic: bool, count: usize, close: usize) -> usize
 // A token that a rule gives: the innermost call takes it, or else it is one of the result.
 fn give(frames: &mut Vec<Frame>, h: Held) -> Result<ExpStep, ExpandFault>
     ensures given { IfOk result (λ s. IsGiven frames.old.items h frames.new.items s) }
+    ensures named { (names : List Text) → IsNamed names h.token.text → IfOk result (λ s. IsOutKnown names s) }
     ensures memory { IfErr result (λ e. e ≡ ExpandFault.OutOfMemory) }
 {
     match frames.pop() {
@@ -105,6 +106,7 @@ impl Machine {
     fn keep(&mut self, h: Held) -> Result<ExpStep, ExpandFault>
         ensures slots { self.new.slots.items ≡ drop 1 self.old.slots.items }
         ensures given { IfOk result (λ s. IsGiven self.old.frames.items h self.new.frames.items s) }
+        ensures named { (names : List Text) → IsNamed names h.token.text → IfOk result (λ s. IsOutKnown names s) }
         ensures memory { IfErr result (λ e. e ≡ ExpandFault.OutOfMemory) }
         ensures same { IsSameElsewhere self.old self.new }
     {
@@ -128,6 +130,10 @@ impl Machine {
         ensures given { IfOk result (λ s. IsPredefinedUse names.old names.new self.old self.new h (spec_predefined_token (text_of names.old self.old.file) h.token.line p) s) }
         ensures faults { IfErr result (λ e. (e ≡ ExpandFault.OutOfMemory) ⊎ ((e ≡ ExpandFault.LimitMacros) × (LIMIT < self.old.used + 2))) }
         ensures same { OnOk result (IsSameRun self.old self.new × (self.new.sets ≡ self.old.sets)) }
+        ensures named { IfOk result (λ s. IsOutKnown names.new s) }
+        ensures grows { Grows names.old names.new }
+        ensures limit { self.new.used ≤ LIMIT }
+        ensures length { OnOk result (length names.new ≤ length names.old + 1) }
     {
         let _ = self.slots.pop_front();
         self.notes.take(names, Role::MacroName, h.token)?;
@@ -160,6 +166,9 @@ impl Machine {
         ensures put { OnOk result (IsPut names.old names.new self.old self.new (put_for (held names.old self.old.sets name) (macro_text names.old m.now) (all_args names.old self.old.sets (map (λ v. v.items) raw.now)) (all_args names.old self.old.sets (map (λ v. v.items) full.now)) (hidden names.old self.old.sets hide.0)) self.old.slots.items) }
         ensures faults { IfErr result (λ e. Faults (put_for (held names.old self.old.sets name) (macro_text names.old m.now) (all_args names.old self.old.sets (map (λ v. v.items) raw.now)) (all_args names.old self.old.sets (map (λ v. v.items) full.now)) (hidden names.old self.old.sets hide.0) (LIMIT - self.old.used)) e) }
         ensures same { OnOk result (IsSameRun self.old self.new × (self.new.frames.items ≡ self.old.frames.items)) }
+        ensures grows { Grows names.old names.new }
+        ensures limit { self.new.used ≤ LIMIT }
+        ensures length { OnOk result (length names.new ≤ length names.old + 2 * length m.now.body) }
     {
         let list = subst(
             self.alloc,
@@ -189,6 +198,9 @@ impl Machine {
         ensures faults { IfErr result (λ e. Faults (put_for (held names.old self.old.sets h) (macro_text names.old m.now) [] [] (with_name (text_of names.old h.token.text) (hidden names.old self.old.sets h.hide.0)) (LIMIT - self.old.used)) e) }
         ensures same { OnOk result (IsSameRun self.old self.new × (self.new.frames.items ≡ self.old.frames.items)) }
         ensures more { IfOk result (λ s. s ≡ ExpStep.More) }
+        ensures grows { Grows names.old names.new }
+        ensures limit { self.new.used ≤ LIMIT }
+        ensures length { OnOk result (length names.new ≤ length names.old + 2 * length m.now.body) }
     {
         let _ = self.slots.pop_front();
         let hide = with_one(names, &mut self.sets, h.hide, h.token.text)?;
@@ -239,6 +251,7 @@ impl Machine {
         ensures entered { (a b : TheSlot) (inside : List TheHeld) (closes : TheHeld) (rest : List TheSlot) (params : List TheName) → self.old.slots.items ≡ a ∷ b ∷ (tokens inside ++ Slot.Token closes ∷ rest) → close ≡ 2 + length inside → m.now.params ≡ Some params → count ≡ length params → OnOk result (IsEntered names.now self.old self.new h m.now params inside closes rest) }
         ensures faults { (a b : TheSlot) (inside : List TheHeld) (closes : TheHeld) (rest : List TheSlot) (params : List TheName) → self.old.slots.items ≡ a ∷ b ∷ (tokens inside ++ Slot.Token closes ∷ rest) → close ≡ 2 + length inside → m.now.params ≡ Some params → count ≡ length params → IfErr result (λ e. IsMiscounted names.now m.now params inside h e) }
         ensures same { OnOk result (IsSameRun self.old self.new × (self.new.notes.seen.items ≡ self.old.notes.seen.items) × (self.new.used ≡ self.old.used)) }
+        ensures used { self.new.used ≡ self.old.used }
     {
         let end = token_at(&self.slots, close);
         let needs = needs_of(self.alloc, names, m, count + 1)?;
@@ -270,6 +283,9 @@ impl Machine {
         ensures put { OnOk result (IsPut names.old names.new self.old self.new (put_for_call names.old macros.now self.old.sets frame.now) self.old.slots.items) }
         ensures faults { IfErr result (λ e. Faults (put_for_call names.old macros.now self.old.sets frame.now (LIMIT - self.old.used)) e) }
         ensures same { OnOk result (IsSameRun self.old self.new × (self.new.frames.items ≡ self.old.frames.items)) }
+        ensures grows { Grows names.old names.new }
+        ensures limit { self.new.used ≤ LIMIT }
+        ensures length { OnOk result (length names.new ≤ length names.old + 2 ^ 26) }
     {
         match macros.lookup(frame.name().token.text) {
             None => unreachable!(),
@@ -300,6 +316,10 @@ impl Machine {
         ensures ended { (rest : List TheSlot) → self.old.slots.items ≡ Slot.End ∷ rest → IfOk result (λ o. IsArgumentEnd names.old names.new macros.now self.old self.new rest o) }
         ensures faults { IfErr result (λ e. IsArgumentFault names.old macros.now self.old e) }
         ensures same { OnOk result (IsSameRun self.old self.new) }
+        ensures named { IfOk result (λ o. IfSome o (λ s. IsOutKnown names.new s)) }
+        ensures grows { Grows names.old names.new }
+        ensures limit { self.new.used ≤ LIMIT }
+        ensures length { OnOk result (length names.new ≤ length names.old + 2 ^ 26) }
     {
         let _ = self.slots.pop_front();
         let Some(mut frame) = self.frames.pop() else {
@@ -329,12 +349,15 @@ impl Machine {
         requires search { IsSearched names.old self.old.slots.items search.old }
         ensures step { (more : List Token) → (self.old.finished ≡ true → more ≡ []) → IfOk result (λ o. IsTurnStep names.old names.new macros.now self.old self.new more o) }
         ensures wanted { IfOk result (λ o. IsTurnWanted names.old names.new macros.now self.old self.new o) }
-        ensures faults { (more : List Token) → (self.old.finished ≡ true → more ≡ []) → IfErr result (λ e. Faults (still names.old macros.now self.old more) e) }
+        ensures faults { (more : List Token) → (self.old.finished ≡ true → more ≡ []) → IfErr result (λ e. BothFault names.old macros.now self.old more e) }
         ensures machine { OnOk result (IsMachine names.new macros.now self.new) }
         ensures search { OnOk result (IsSearched names.new self.new.slots.items search.new) }
-        ensures grows { OnOk result (Grows names.old names.new) }
+        ensures named { IfOk result (λ o. IfSome o (λ s. IsOutKnown names.new s)) }
+        ensures grows { Grows names.old names.new }
         ensures same { OnOk result (IsSameRun self.old self.new) }
         ensures smaller { IfOk result (λ o. o ≡ None → length self.new.slots.items < length self.old.slots.items) }
+        ensures limit { self.new.used ≤ LIMIT }
+        ensures length { OnOk result (length names.new ≤ length names.old + 2 ^ 26) }
     {
         expansion_follows_the_rules();
         let turn = turn_of(
@@ -389,12 +412,16 @@ impl Machine {
         requires machine { IsMachine names.old macros.now self.old }
         requires search { IsSearched names.old self.old.slots.items search.old }
         ensures step { (more : List Token) → (self.old.finished ≡ true → more ≡ []) → IfOk result (λ s. IsStep names.old names.new macros.now self.old self.new more s) }
+        ensures ahead { (more : List Token) → (self.old.finished ≡ true → more ≡ []) → IfOk result (λ s. IsAhead names.old names.new macros.now self.old self.new more s) }
         ensures wanted { IfOk result (λ s. IsWantedAt names.old macros.now self.old s) }
-        ensures faults { (more : List Token) → (self.old.finished ≡ true → more ≡ []) → IfErr result (λ e. Faults (still names.old macros.now self.old more) e) }
+        ensures faults { (more : List Token) → (self.old.finished ≡ true → more ≡ []) → IfErr result (λ e. BothFault names.old macros.now self.old more e) }
         ensures machine { OnOk result (IsMachine names.new macros.now self.new) }
         ensures search { OnOk result (IsSearched names.new self.new.slots.items search.new) }
-        ensures grows { OnOk result (Grows names.old names.new) }
+        ensures named { IfOk result (λ s. IsOutKnown names.new s) }
+        ensures grows { Grows names.old names.new }
         ensures same { OnOk result (IsSameRun self.old self.new) }
+        ensures limit { self.new.used ≤ LIMIT }
+        ensures length { OnOk result (length names.new ≤ length names.old + 2 ^ 26) }
     {
         loop {
             if let Some(step) = self.turn(names, macros, search)? {

@@ -42,7 +42,8 @@ pub fn paste(
     ensures does { (hide : List Text) → IfOk result (λ h. Does (watch_of names.old notes.old) notes.old.seen.items notes.new.seen.items (spec.paste (token_of names.old hide name) (held names.old sets.old a) (held names.old sets.old b)) (held names.new sets.new h)) }
     ensures stops { (hide : List Text) → IfErr result (λ e. Stops (spec.paste (token_of names.old hide name) (held names.old sets.old a) (held names.old sets.old b)) e) }
     ensures known { IfOk result (λ h. IsKnown names.new sets.new h) }
-    ensures grows { OnOk result (Grows names.old names.new × Grows sets.old sets.new) }
+    ensures grows { Grows names.old names.new }
+    ensures sets_grow { OnOk result (Grows sets.old sets.new) }
     ensures tables { OnOk result (AreTables names.new sets.new) }
     ensures length { length names.new ≤ length names.old + 1 }
     ensures same { (notes.new.from ≡ notes.old.from) × (notes.new.to ≡ notes.old.to) }

@@ -54,7 +54,8 @@ fn paste_after(
     ensures does { (hide : List Text) → IfOk result (λ h. Does (watch_of names.old notes.old) notes.old.seen.items notes.new.seen.items (spec.paste_after (token_of names.old hide name) (held names.old sets.old b) (left_text names.old sets.old left)) (held names.new sets.new h)) }
     ensures stops { (hide : List Text) → IfErr result (λ e. Stops (spec.paste_after (token_of names.old hide name) (held names.old sets.old b) (left_text names.old sets.old left)) e) }
     ensures known { IfOk result (λ h. IsKnown names.new sets.new h) }
-    ensures grows { OnOk result (Grows names.old names.new × Grows sets.old sets.new) }
+    ensures grows { Grows names.old names.new }
+    ensures sets_grow { OnOk result (Grows sets.old sets.new) }
     ensures tables { OnOk result (AreTables names.new sets.new) }
     ensures length { length names.new ≤ length names.old + 1 }
     ensures same { (notes.new.from ≡ notes.old.from) × (notes.new.to ≡ notes.old.to) }
@@ -94,7 +95,8 @@ fn take_part(
     requires part { IsPartKnown names.old sets.old part }
     ensures takes { OnOk result (Takes (watch_of names.old notes.old) notes.old.seen.items notes.new.seen.items names.old names.new sets.old sets.new name state.old state.new part) }
     ensures stops { (hide : List Text) (ps : List spec.Part) → IfErr result (λ e. Stops (spec.all_pasted (token_of names.old hide name) (left_text names.old sets.old state.old.left) state.old.pasting (part_text names.old sets.old part ∷ ps)) e) }
-    ensures grows { OnOk result (Grows names.old names.new × Grows sets.old sets.new) }
+    ensures grows { Grows names.old names.new }
+    ensures sets_grow { OnOk result (Grows sets.old sets.new) }
     ensures tables { OnOk result (AreTables names.new sets.new) }
     ensures length { OnOk result (length names.new + pending state.new.pasting ≤ length names.old + pending state.old.pasting + joins (part ∷ [])) }
     ensures same { (notes.new.from ≡ notes.old.from) × (notes.new.to ≡ notes.old.to) }
@@ -142,7 +144,8 @@ pub fn paste_all(
     ensures does { (hide : List Text) → IfOk result (λ hs. Does (watch_of names.old notes.old) notes.old.seen.items notes.new.seen.items (spec.all_pasted (token_of names.old hide name) None false (part_texts names.old sets.old parts.now)) (all_held names.new sets.new hs.items)) }
     ensures stops { (hide : List Text) → IfErr result (λ e. Stops (spec.all_pasted (token_of names.old hide name) None false (part_texts names.old sets.old parts.now)) e) }
     ensures known { IfOk result (λ hs. AreKnown names.new sets.new hs.items) }
-    ensures grows { OnOk result (Grows names.old names.new × Grows sets.old sets.new) }
+    ensures grows { Grows names.old names.new }
+    ensures sets_grow { OnOk result (Grows sets.old sets.new) }
     ensures tables { OnOk result (AreTables names.new sets.new) }
     ensures length { OnOk result (length names.new ≤ length names.old + joins parts.now) }
     ensures same { OnOk result ((notes.new.from ≡ notes.old.from) × (notes.new.to ≡ notes.old.to)) }

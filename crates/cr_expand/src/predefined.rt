@@ -1,5 +1,5 @@
 //! The token that a predefined macro gives (C11 6.10.8.1).
-ghost use Rattle.std.specs.Prelude.{◌≡◌, ◌<◌, ◌-◌, ◌^◌, IfOk, OnOk, List, length};
+ghost use Rattle.std.specs.Prelude.{◌≡◌, ◌<◌, ◌≤◌, ◌+◌, ◌-◌, ◌^◌, IfOk, OnOk, List, length};
 ghost use Rattle.cr_base.specs.NameTable.{IsDistinct};
 ghost use Rattle.cr_macros.specs.Definition.{text_of};
 ghost use Rattle.cr_macros.specs.Expansion as spec;
@@ -17,7 +17,9 @@ use itoa::Buffer;
 // A kind with the name of a text.
 fn literal(names: &mut NameTable, kind: PpKind, text: &[u8]) -> Result<(PpKind, Name), OutOfMemory>
     requires { length names.old < 2 ^ 32 - 1 }
-    ensures { IfOk result (λ given. IsGivenText names.old names.new (kind, text.now) given) }
+    ensures given { IfOk result (λ given. IsGivenText names.old names.new (kind, text.now) given) }
+    ensures grows { Grows names.old names.new }
+    ensures length { OnOk result (length names.new ≤ length names.old + 1) }
 {
     let name = names.intern(text)?;
     Ok((kind, name))
@@ -33,7 +35,9 @@ fn text_for(
     requires room { length names.old < 2 ^ 32 - 1 }
     requires distinct { IsDistinct names.old }
     requires file { IsNamed names.old file }
-    ensures { IfOk result (λ given. IsGivenText names.old names.new (spec.predefined_token (text_of names.old file) line p) given) }
+    ensures given { IfOk result (λ given. IsGivenText names.old names.new (spec.predefined_token (text_of names.old file) line p) given) }
+    ensures grows { Grows names.old names.new }
+    ensures length { OnOk result (length names.new ≤ length names.old + 1) }
 {
     let mut buffer = Buffer::new();
     let literal_text: (PpKind, &[u8]) = match p {
@@ -63,8 +67,9 @@ pub fn predefined_token(
     requires file { IsNamed names.old file }
     ensures token { (hide hidden : List Text) → IfOk result (λ t. let given = spec.predefined_token (text_of names.old file) name.line p in token_of names.new hide t ≡ spec_substitution.made (token_of names.old hidden name) given.0 given.1 name.space hide) }
     ensures named { IfOk result (λ t. IsNamed names.new t.text) }
-    ensures grows { OnOk result (Grows names.old names.new) }
+    ensures grows { Grows names.old names.new }
     ensures distinct { OnOk result (IsDistinct names.new) }
+    ensures length { OnOk result (length names.new ≤ length names.old + 1) }
 {
     let (kind, text) = text_for(names, file, name.line, p)?;
     Ok(made(name, kind, text, name.space))

@@ -152,8 +152,10 @@ pub fn subst(
     ensures does { (hidden_from_name : List Text) → IfOk result (λ out. Does (watch_of names.old notes.old) notes.old.seen.items notes.new.seen.items (spec.subst (token_of names.old hidden_from_name name) (macro_text names.old m.now) (all_args names.old sets.old (map (λ v. v.items) raw.now)) (all_args names.old sets.old (map (λ v. v.items) full.now)) (hidden names.old sets.old hide.0)) (all_held names.new sets.new out.items)) }
     ensures stops { (hidden_from_name : List Text) → IfErr result (λ e. Stops (spec.subst (token_of names.old hidden_from_name name) (macro_text names.old m.now) (all_args names.old sets.old (map (λ v. v.items) raw.now)) (all_args names.old sets.old (map (λ v. v.items) full.now)) (hidden names.old sets.old hide.0)) e) }
     ensures known { IfOk result (λ out. AreKnown names.new sets.new out.items) }
-    ensures grows { OnOk result (Grows names.old names.new × Grows sets.old sets.new) }
+    ensures grows { Grows names.old names.new }
+    ensures sets_grow { OnOk result (Grows sets.old sets.new) }
     ensures tables { OnOk result (AreTables names.new sets.new) }
+    ensures length { OnOk result (length names.new ≤ length names.old + 2 * length m.now.body) }
     ensures same { OnOk result ((notes.new.from ≡ notes.old.from) × (notes.new.to ≡ notes.old.to)) }
 {
     let items = prepared(alloc, names, notes, name, m, raw)?;

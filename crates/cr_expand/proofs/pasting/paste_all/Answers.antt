@@ -23,7 +23,7 @@ loop-i-preserved c = record {
   pasting = pasting_goes_on (watch_of c.args.names.now c.args.notes.now) (watch_of c.loop-i.names c.loop-i.notes) c.args.notes.now.seen.items c.loop-i.notes.seen.items c.take_part.new.notes.seen.items c.args.names.now c.loop-i.names c.take_part.new.names c.args.sets.now c.loop-i.sets c.take_part.new.sets c.args.name c.args.parts.now c.loop-i.i _ c.loop-i.state c.take_part.new.state
       c.requires.tables c.requires.name c.requires.parts
       (watch_kept c.args.names.now c.loop-i.names c.args.notes.now c.loop-i.notes c.loop-i.invariant.pasting.grows c.requires.watched c.loop-i.invariant.same.0 c.loop-i.invariant.same.1)
-      c.loop-i-test.true c.in_ok-take_part.ensures.grows.0 c.in_ok-take_part.ensures.grows.1 c.in_ok-take_part.ensures.tables c.loop-i.invariant.pasting c.in_ok-take_part.ensures.takes;
+      c.loop-i-test.true c.in_ok-take_part.ensures.grows c.in_ok-take_part.ensures.sets_grow c.in_ok-take_part.ensures.tables c.loop-i.invariant.pasting c.in_ok-take_part.ensures.takes;
 }
 
 pub returns-in_err-put-clause-stops : goal.returns-in_err-put-clause-stops

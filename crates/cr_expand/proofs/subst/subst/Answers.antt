@@ -58,5 +58,5 @@ returns-clause-does c = λ hide.
     (all_args c.args.names.now c.args.sets.now (map (λ v. v.items) c.args.raw.now)) (all_args c.args.names.now c.args.sets.now (map (λ v. v.items) c.args.full.now)) (hidden c.args.names.now c.args.sets.now c.args.hide.0)
     (item_texts c.args.names.now c.in_ok-items.items.items) c.in_ok-items.ensures.items (c.in_ok-items.ensures.seen hide c.args.sets.now) c.fill.new.notes.seen.items c.paste_all.new.notes.seen.items parts out _ f g
     (c.in_ok-placed.ensures.placed
-    ∙ ap (λ x. spec.placed name x (all_held c.paste_all.new.names c.paste_all.new.sets c.deref-3.result.now)) (hidden_kept c.args.names.now c.paste_all.new.names c.args.sets.now c.paste_all.new.sets c.args.hide.0 (grows_then c.args.names.now c.fill.new.names c.paste_all.new.names c.in_ok-parts.ensures.grows c.in_ok-pasted.ensures.grows.0) c.in_ok-pasted.ensures.grows.1 c.requires.tables.named c.requires.hide)
+    ∙ ap (λ x. spec.placed name x (all_held c.paste_all.new.names c.paste_all.new.sets c.deref-3.result.now)) (hidden_kept c.args.names.now c.paste_all.new.names c.args.sets.now c.paste_all.new.sets c.args.hide.0 (grows_then c.args.names.now c.fill.new.names c.paste_all.new.names c.in_ok-parts.ensures.grows c.in_ok-pasted.ensures.grows) c.in_ok-pasted.ensures.sets_grow c.requires.tables.named c.requires.hide)
     ∙ ap (λ x. spec.placed name (hidden c.args.names.now c.args.sets.now c.args.hide.0) (all_held c.paste_all.new.names c.paste_all.new.sets x)) c.deref-3.ensures.value)

@@ -1,5 +1,7 @@
 use Rattle.std.proofs.Common.{refl}
 use Rattle.cr_expand.specs.declared.machine.Machine.{Machine}
+use Rattle.cr_macros.specs.Expansion.{expand}
+use Rattle.cr_expand.specs.Ahead.{next_token}
 use Rattle.cr_expand.proofs.Fresh.{fed_gives, fed_machine, fed_runs}
 use Rattle.cr_expand.proofs.expander.Expander.feed.Goals as goal
 
@@ -8,7 +10,8 @@ returns-in-Ok-clause-fed c =
     let old : Machine = c.args.self.now.machine in
     let now : Machine = record old { slots = c.put_back.new.slots } in
     record {
-      gives = λ names macros more. fed_gives names macros old now c.args.tokens.now more c.in-Ok.ensures refl refl refl refl;
+      gives = λ names macros more. fed_gives expand names macros old now c.args.tokens.now more c.in-Ok.ensures refl refl refl refl;
+      finds = λ names macros more. fed_gives next_token names macros old now c.args.tokens.now more c.in-Ok.ensures refl refl refl refl;
       running = λ names macros r t. fed_runs names macros old now c.args.self.now.search c.args.self.now.fault c.args.tokens.now c.in-Ok.ensures (fed_machine names macros old now c.args.tokens.now c.in-Ok.ensures refl refl refl refl refl t) r;
       seen = refl;
       used = refl;

@@ -1,11 +1,25 @@
 use Rattle.std.proofs.Common.{sym, subst, ◌∙◌}
+use Rattle.std.proofs.lemmas.Result.{err_from_is_err_and}
 use Rattle.cr_expand.specs.Machines.{IsTurnStep, IsTurnWanted}
-use Rattle.cr_expand.proofs.Silent.{silent_more, step_after, wanted_after}
+use Rattle.cr_expand.proofs.Silent.{silent_more, faults_after, step_after, ahead_after, wanted_after}
 use Rattle.cr_expand.proofs.machine.Machine.next.Goals as goal
 
 pub returns-in-Some-clause-step : goal.returns-in-Some-clause-step
 returns-in-Some-clause-step c = λ more q.
-    step_after c.args.names.now c.loop-step.names c.turn.new.names c.args.macros.now c.args.self.now c.loop-step.self c.turn.new.self c.in-Some.step c.loop-step.invariant.silent (subst (λ o. IsTurnWanted c.loop-step.names c.turn.new.names c.args.macros.now c.loop-step.self c.turn.new.self o) c.in-Some.is c.in_ok-step.ensures.wanted) more q (subst (λ o. IsTurnStep c.loop-step.names c.turn.new.names c.args.macros.now c.loop-step.self c.turn.new.self more o) c.in-Some.is (c.in_ok-step.ensures.step more (λ f. q (sym c.loop-step.invariant.silent.same.3 ∙ f))))
+    step_after c.args.names.now c.loop-step.names c.turn.new.names c.args.macros.now c.args.self.now c.loop-step.self c.turn.new.self c.in-Some.step c.loop-step.invariant.silent
+    (subst (λ o. IsTurnWanted c.loop-step.names c.turn.new.names c.args.macros.now c.loop-step.self c.turn.new.self o) c.in-Some.is c.in_ok-step.ensures.wanted) more q
+    (subst (λ o. IsTurnStep c.loop-step.names c.turn.new.names c.args.macros.now c.loop-step.self c.turn.new.self more o) c.in-Some.is (c.in_ok-step.ensures.step more (λ f. q (sym c.loop-step.invariant.silent.same.3 ∙ f)))).0
+
+pub returns-in-Some-clause-ahead : goal.returns-in-Some-clause-ahead
+returns-in-Some-clause-ahead c = λ more q.
+    ahead_after c.args.names.now c.loop-step.names c.turn.new.names c.args.macros.now c.args.self.now c.loop-step.self c.turn.new.self c.in-Some.step c.loop-step.invariant.silent
+    (subst (λ o. IsTurnWanted c.loop-step.names c.turn.new.names c.args.macros.now c.loop-step.self c.turn.new.self o) c.in-Some.is c.in_ok-step.ensures.wanted) more q
+    (subst (λ o. IsTurnStep c.loop-step.names c.turn.new.names c.args.macros.now c.loop-step.self c.turn.new.self more o) c.in-Some.is (c.in_ok-step.ensures.step more (λ f. q (sym c.loop-step.invariant.silent.same.3 ∙ f)))).1
+
+pub returns-in_err-step-clause-faults : goal.returns-in_err-step-clause-faults
+returns-in_err-step-clause-faults c = λ more q.
+    let p = err_from_is_err_and c.from_residual.result c.from_residual.ensures.1 in
+    rw (p.1, p.2) (faults_after c.args.names.now c.loop-step.names c.args.macros.now c.args.self.now c.loop-step.self c.in_err-step.field-0.0 more c.loop-step.invariant.silent q (c.in_err-step.ensures.faults more (λ f. q (sym c.loop-step.invariant.silent.same.3 ∙ f))))
 
 pub returns-in-Some-clause-wanted : goal.returns-in-Some-clause-wanted
 returns-in-Some-clause-wanted c = wanted_after c.args.names.now c.loop-step.names c.turn.new.names c.args.macros.now c.args.self.now c.loop-step.self c.in-Some.step c.loop-step.invariant.silent (subst (λ o. IsTurnWanted c.loop-step.names c.turn.new.names c.args.macros.now c.loop-step.self c.turn.new.self o) c.in-Some.is c.in_ok-step.ensures.wanted)

@@ -39,5 +39,5 @@ returns-clause-put c =
     (c.in_ok-put_front.ensures ∙ ap (λ l. tokens l ++ c.args.self.now.slots.items) c.deref.ensures.value)
     c.in_ok-list.ensures.known
     c.in_ok-list.ensures.tables
-    c.in_ok-list.ensures.grows.0
-    c.in_ok-list.ensures.grows.1
+    c.in_ok-list.ensures.grows
+    c.in_ok-list.ensures.sets_grow

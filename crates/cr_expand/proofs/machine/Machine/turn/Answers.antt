@@ -11,9 +11,9 @@ use Rattle.cr_expand.proofs.Looked.{found_known, found_short, keys_known}
 use Rattle.cr_expand.proofs.Nexts.{next_stays, next_predefined, next_object, next_call, next_end, next_unclosed}
 use Rattle.cr_expand.proofs.Steps.{same_sets, keeps, predefines}
 use Rattle.cr_expand.proofs.Calling.{objects, object_faults}
-use Rattle.cr_expand.proofs.Arguments.{unclosed, predefined_fault, miscounts, enters}
-use Rattle.cr_expand.proofs.TurnSteps.{head_known, closed_at, is_more, put_from, ended_step, ended_fault, ended_machine, ended_grows, ended_smaller, entered_machine, entered_smaller}
-use Rattle.cr_expand.proofs.Wants.{next_finish, no_calls, end_gives, wanting_end, wanting_hungry, ended_wanted, entered_wanted}
+use Rattle.cr_expand.proofs.Arguments.{unclosed, predefined_fault, miscounts}
+use Rattle.cr_expand.proofs.TurnSteps.{head_known, closed_at, is_more, put_from, ended_step, ended_fault, ended_machine, ended_smaller, entered_step, entered_machine, entered_smaller}
+use Rattle.cr_expand.proofs.Wants.{next_finish, no_calls, end_gives, end_ahead, wanting_end, wanting_hungry, ended_wanted, entered_wanted}
 use Rattle.cr_macros.specs.MacroTables.{table_of}
 use Rattle.cr_expand.specs.Slots.{ends}
 use Rattle.cr_expand.proofs.Keeping.{gives_machine, object_machine}
@@ -70,6 +70,11 @@ returns-in_ok-step-in-Stays-clause-step c = λ more q.
     c.expansion_follows_the_rules.ensures c.in-Stays.h u.0 c.in_ok-step-in-Stays.step (held c.args.names.now c.args.self.now.sets c.in-Stays.h) u.1 u.2
     c.in_ok-step-in-Stays.ensures.slots (ap (λ x. LIMIT - x) e.3) e.2 (ap (λ z. held c.args.names.now z c.in-Stays.h) e.1) c.in_ok-step-in-Stays.ensures.given
 
+pub returns-in_ok-step-in-Stays-clause-named : goal.returns-in_ok-step-in-Stays-clause-named
+returns-in_ok-step-in-Stays-clause-named c =
+    let u = next_stays c.args.names.now c.args.self.now.sets c.args.macros.now (text_of c.args.names.now c.args.self.now.file) [] c.args.self.now.slots.items c.in-Stays.h (c.in-Stays.ensures.means (text_of c.args.names.now c.args.self.now.file) [] (λ _. refl)) in
+    c.in_ok-step-in-Stays.ensures.named c.args.names.now (head_known c.args.names.now c.args.self.now.sets c.args.self.now.slots.items c.in-Stays.h u.0 u.1 c.requires.machine.slots).0
+
 pub returns-in_ok-step-in-Stays-clause-machine : goal.returns-in_ok-step-in-Stays-clause-machine
 returns-in_ok-step-in-Stays-clause-machine c =
     let u = next_stays c.args.names.now c.args.self.now.sets c.args.macros.now (text_of c.args.names.now c.args.self.now.file) [] c.args.self.now.slots.items c.in-Stays.h (c.in-Stays.ensures.means (text_of c.args.names.now c.args.self.now.file) [] (λ _. refl)) in
@@ -125,6 +130,11 @@ returns-in_ok-step-in-Object-clause-machine c =
     let w = put_from c.args.names.now c.object.new.names c.args.self.now c.object.new.self _ (drop 1 c.args.self.now.slots.items) u.0.0 (ap (drop 1) u.0.1) c.in_ok-step-in-Object.ensures.put in
     object_machine c.args.names.now c.object.new.names c.args.macros.now c.args.self.now c.object.new.self c.requires.machine c.requires.macros w.names_grow w.sets_grow e.0 w.tables c.in-Object.h u.0.0 w.list u.0.1 w.slots w.known e.1 w.limit
 
+pub returns-in_ok-step-in-Object-clause-length : goal.returns-in_ok-step-in-Object-clause-length
+returns-in_ok-step-in-Object-clause-length c =
+    let u = next_object c.args.names.now c.args.self.now.sets c.args.macros.now (text_of c.args.names.now c.args.self.now.file) [] c.args.self.now.slots.items c.in-Object.h c.in-Object.m (c.in-Object.ensures.means (text_of c.args.names.now c.args.self.now.file) [] (λ _. refl)) in
+    omega (arith, c.in_ok-step-in-Object.ensures.length, found_short c.args.names.now c.args.macros.now c.in-Object.h.token.text c.in-Object.m.now c.requires.macros u.1)
+
 pub returns-in_err-step-in-ArgumentEnd-clause-faults : goal.returns-in_err-step-in-ArgumentEnd-clause-faults
 returns-in_err-step-in-ArgumentEnd-clause-faults c = λ more q.
     let p = err_from_is_err_and c.from_residual.result c.from_residual.ensures.1 in
@@ -140,11 +150,6 @@ pub returns-in_ok-step-in-ArgumentEnd-clause-machine : goal.returns-in_ok-step-i
 returns-in_ok-step-in-ArgumentEnd-clause-machine c =
     let u = next_end c.args.names.now c.args.self.now.sets c.args.macros.now (text_of c.args.names.now c.args.self.now.file) [] c.args.self.now.slots.items (c.in-ArgumentEnd.ensures.means (text_of c.args.names.now c.args.self.now.file) [] (λ _. refl)) in
     ended_machine c.expansion_follows_the_rules.ensures c.args.names.now c.end_argument.new.names c.args.macros.now c.args.self.now c.end_argument.new.self c.requires.machine c.requires.macros c.in_ok-step-in-ArgumentEnd.ensures.same u.0 u.1 c.in_ok-step-in-ArgumentEnd.step (c.in_ok-step-in-ArgumentEnd.ensures.ended u.0 u.1)
-
-pub returns-in_ok-step-in-ArgumentEnd-clause-grows : goal.returns-in_ok-step-in-ArgumentEnd-clause-grows
-returns-in_ok-step-in-ArgumentEnd-clause-grows c =
-    let u = next_end c.args.names.now c.args.self.now.sets c.args.macros.now (text_of c.args.names.now c.args.self.now.file) [] c.args.self.now.slots.items (c.in-ArgumentEnd.ensures.means (text_of c.args.names.now c.args.self.now.file) [] (λ _. refl)) in
-    ended_grows c.expansion_follows_the_rules.ensures c.args.names.now c.end_argument.new.names c.args.macros.now c.args.self.now c.end_argument.new.self c.requires.machine c.requires.macros c.in_ok-step-in-ArgumentEnd.ensures.same u.0 u.1 c.in_ok-step-in-ArgumentEnd.step (c.in_ok-step-in-ArgumentEnd.ensures.ended u.0 u.1)
 
 pub returns-in_ok-step-in-ArgumentEnd-clause-smaller : goal.returns-in_ok-step-in-ArgumentEnd-clause-smaller
 returns-in_ok-step-in-ArgumentEnd-clause-smaller c =
@@ -167,7 +172,7 @@ returns-in_ok-enter-in-Call-clause-step c = λ more q.
     let u = next_call c.args.names.now c.args.self.now.sets c.args.macros.now (text_of c.args.names.now c.args.self.now.file) more c.args.self.now.slots.items c.in-Call.h c.in-Call.m c.in-Call.count c.in-Call.close (c.in-Call.ensures.means (text_of c.args.names.now c.args.self.now.file) more q) in
     let i = c.in_ok-enter-in-Call.ensures.entered (slot.Token c.in-Call.h) (slot.Token u.0.opens) u.0.inside u.0.closes u.0.rest u.0.params u.0.slots_are u.0.place u.0.macro_params u.0.counts in
     let e = c.in_ok-enter-in-Call.ensures.same in
-    (enters c.args.names.now c.args.names.now c.args.macros.now c.args.self.now c.enter.new.self more c.requires.machine c.requires.macros (grows_same c.args.names.now) i.sets_grow e.0.2 c.expansion_follows_the_rules.ensures c.in-Call.h c.in-Call.m.now c.in-Call.count c.in-Call.close u.0 u.1 i refl (ap (λ x. LIMIT - x) e.2), e.1)
+    entered_step c.args.names.now c.args.macros.now c.args.self.now c.enter.new.self more c.requires.machine c.requires.macros c.expansion_follows_the_rules.ensures c.in-Call.h c.in-Call.m.now c.in-Call.count c.in-Call.close u.0 u.1 i e.0.2 e.2 e.1
 
 pub returns-in_ok-enter-in-Call-clause-machine : goal.returns-in_ok-enter-in-Call-clause-machine
 returns-in_ok-enter-in-Call-clause-machine c =
@@ -185,8 +190,10 @@ returns-in_ok-enter-in-Call-clause-smaller c = λ _.
 pub returns-in-End-clause-step : goal.returns-in-End-clause-step
 returns-in-End-clause-step c = λ more q.
     let e = next_finish c.args.names.now c.args.self.now.sets c.args.macros.now (text_of c.args.names.now c.args.self.now.file) more c.args.self.now.slots.items (c.in-End.ensures.means (text_of c.args.names.now c.args.self.now.file) more q) in
-    let f = wanting_end c.args.names.now c.args.self.now.sets c.args.self.now.finished c.args.self.now.slots.items (λ x. use_of (table_of c.args.names.now c.args.macros.now (text_of c.args.names.now c.args.self.now.file)) (held c.args.names.now c.args.self.now.sets x)) (c.in-End.ensures.wanting (text_of c.args.names.now c.args.self.now.file)) in
-    (refl, refl, end_gives c.expansion_follows_the_rules.ensures c.args.names.now c.args.macros.now c.args.self.now more c.requires.machine e (q f))
+    let f = wanting_end c.args.names.now c.args.self.now.sets c.args.self.now.finished c.args.self.now.slots.items (λ x. use_of (table_of c.args.names.now c.args.macros.now (text_of c.args.names.now c.args.self.now.file)) (held c.args.names.now c.args.self.now.sets x)) (c.in-End.ensures.wanting (text_of c.args.names.now c.args.self.now.file)) in (
+      (refl, refl, end_gives c.expansion_follows_the_rules.ensures c.args.names.now c.args.macros.now c.args.self.now more c.requires.machine e (q f)),
+      (refl, refl, end_ahead c.args.names.now c.args.macros.now c.args.self.now more c.requires.machine e (q f)),
+    )
 
 pub returns-in-End-clause-wanted : goal.returns-in-End-clause-wanted
 returns-in-End-clause-wanted c =
