@@ -17,8 +17,13 @@ pub mod Headings
 pub mod Going
 pub mod Entering
 pub mod Wholes
+pub mod Depths
 pub mod Closes
+pub mod Spans
 pub mod PartedLists
+pub mod Overs
+pub mod PartedGroups
+pub mod Lefts
 pub mod Turning
 pub mod FullMarks
 pub mod Interned

@@ -10,8 +10,9 @@ use Rattle.cr_expand.specs.declared.machine.ExpStep.{ExpStep}
 use Rattle.cr_expand.specs.declared.machine.ExpStep.TheVariants as step
 use Rattle.cr_expand.specs.declared.machine.TheConstants.{LIMIT}
 use Rattle.cr_expand.specs.declared.expander.Expander.{Expander}
-use Rattle.cr_expand.specs.declared.closing.Search.{Search}
+use Rattle.cr_expand.specs.declared.closing.Ahead.{Ahead}
 use Rattle.cr_expand.specs.Calls.{IsSearched}
+use Rattle.cr_expand.specs.Groups.{AreNoted}
 use Rattle.cr_macros.specs.Tokens.{Text, Token, tokens_of, Event, Answer, Gave}
 use Rattle.cr_macros.specs.Definition.{text_of}
 use Rattle.cr_macros.specs.Expansion.{expand}
@@ -25,13 +26,13 @@ use Rattle.cr_expand.specs.Machines.{still, IsMachine, IsSameRun, IsStep}
 abbrev pub left_over : List Text → Macros → Expander → List Token → Answer (List Token)
 left_over names macros e more = still names macros e.machine more
 
-abbrev pub runs_by : List Text → Macros → Machine → Search → Option ExpandFault → Type 0
-runs_by names macros m search None = IsMachine names macros m × IsSearched names m.slots.items search
-runs_by names macros m search (Some fault) = Unit {0}
+abbrev pub runs_by : List Text → Macros → Machine → Ahead → Option ExpandFault → Type 0
+runs_by names macros m ahead None = IsMachine names macros m × IsSearched names m.slots.items ahead.search × AreNoted names m.slots.items ahead.groups.items
+runs_by names macros m ahead (Some fault) = Unit {0}
 
--- The tables gave what the machine holds, and its search is right, unless it has met a fault.
+-- The tables gave what the machine holds, and what it knows of the slots ahead is right, unless it has met a fault.
 abbrev pub IsRunning : List Text → Macros → Expander → Type 0
-IsRunning names macros e = runs_by names macros e.machine e.search e.fault
+IsRunning names macros e = runs_by names macros e.machine e.ahead e.fault
 
 -- A machine that was fed nothing: what is left is the expansion of what comes, with the work that is left.
 pub record IsFresh (old new file : Name) (work : ℕ) (e : Expander) : Type 0 where

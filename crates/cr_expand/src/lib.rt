@@ -6,6 +6,7 @@ mod expander;
 mod fill;
 mod frame;
 mod good_macros;
+mod groups;
 mod head;
 mod held;
 mod hide_sets;
