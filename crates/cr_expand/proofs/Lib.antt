@@ -43,5 +43,6 @@ pub mod TurnSteps
 pub mod Silent
 pub mod Wants
 pub mod Fresh
+pub mod RunsOn
 pub mod RunLaw
 pub mod Defined

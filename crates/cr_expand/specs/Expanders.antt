@@ -20,7 +20,7 @@ use Rattle.cr_macros.specs.MacroTables.{Macros, table_of}
 use Rattle.cr_expand.specs.HideSets.{Grows}
 use Rattle.cr_expand.specs.Held.{IsNamed, watch_of, noted}
 use Rattle.cr_expand.specs.Items.{IsTokenNamed}
-use Rattle.cr_expand.specs.Machines.{still, IsMachine, IsSameRun, IsStep}
+use Rattle.cr_expand.specs.Machines.{still, IsMachine, AreMacros, IsSameRun, IsStep}
 
 -- What is left of the expansion, where these tokens come behind what was fed.
 abbrev pub left_over : List Text → Macros → Expander → List Token → Answer (List Token)
@@ -59,12 +59,17 @@ Steps names new macros old now s =
     ((more : List Token) → (old.machine.finished ≡ true → more ≡ []) → IsStep names new macros old.machine now.machine more s)
     × Grows names new × IsSameRun old.machine now.machine
 
+-- Where names are put into the table between two steps, a machine that has met no fault runs on, and the same is left.
+pub record RunsOn : Type 0 where
+  pub running : (names new : List Text) (macros : Macros) (e : Expander) → Grows names new → IsDistinct new → AreMacros names macros → IsRunning names macros e → IsRunning new macros e
+  pub gives : (names new : List Text) (macros : Macros) (e : Expander) (more : List Token) → Grows names new → AreMacros names macros → IsRunning names macros e → e.fault ≡ None → left_over new macros e more ≡ left_over names macros e more
+
 -- a token without its hide set
 abbrev pub plain : Token → Token
 plain t = record t { hide = [] }
 
--- A machine is fed, stepped and told that no more comes, in any order and in pieces of any size: the tokens that it was fed
--- and those that it gave out so far.
+-- A machine is fed, stepped and told that no more comes, in any order and in pieces of any size, and names are put into the
+-- table in between: the tokens that it was fed and those that it gave out so far.
 pub data Run (macros : Macros) (names : List Text) (first : Expander) : List Text → Expander → List Token → List Token → Type 0 where
   Begins : Run macros names first names first [] []
   Fed : {at : List Text} {e : Expander} {fed out : List Token} → Run macros names first at e fed out
@@ -73,6 +78,8 @@ pub data Run (macros : Macros) (names : List Text) (first : Expander) : List Tex
       → (t : PpTok) (new : List Text) (now : Expander) → Steps at new macros e now (step.Out t) → Run macros names first new now fed (out ++ tokens_of new (t ∷ []))
   Goes : {at : List Text} {e : Expander} {fed out : List Token} → Run macros names first at e fed out
       → (new : List Text) (now : Expander) → Steps at new macros e now step.More → Run macros names first new now fed out
+  Grown : {at : List Text} {e : Expander} {fed out : List Token} → Run macros names first at e fed out
+      → (new : List Text) → Grows at new → AreMacros at macros → IsRunning at macros e → e.fault ≡ None → Run macros names first new e fed out
   Finishes : {at : List Text} {e : Expander} {fed out : List Token} → Run macros names first at e fed out
       → (now : Expander) → now ≡ record e { machine = record e.machine { finished = true } } → Run macros names first at now fed out
 

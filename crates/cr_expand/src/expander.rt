@@ -6,7 +6,7 @@ ghost use Rattle.cr_macros.specs.MacroTables.{Macros};
 ghost use Rattle.cr_expand.specs.Held.{Faults};
 ghost use Rattle.cr_expand.specs.Feeding.{IsPutBack};
 ghost use Rattle.cr_expand.specs.Machines.{AreMacros, IsStep, IsWantedAt, IsSameRun};
-ghost use Rattle.cr_expand.specs.Expanders.{left_over, IsRunning, IsFresh, IsFed, Steps, GivesTheExpansion};
+ghost use Rattle.cr_expand.specs.Expanders.{left_over, IsRunning, IsFresh, IsFed, Steps, RunsOn, GivesTheExpansion};
 
 use crate::closing::Ahead;
 use crate::held::Held;
@@ -161,4 +161,11 @@ impl Expander {
 /// and used their macro work. It does no work.
 pub fn expansion_is_however_it_is_fed()
     ensures { GivesTheExpansion }
+{}
+
+/// The law that a machine runs on where names are put into the table between two steps: its
+/// condition holds of the grown table, and what is left of the expansion is the same. It does no
+/// work.
+pub fn machines_run_on_as_names_grow()
+    ensures { RunsOn }
 {}

@@ -29,7 +29,7 @@ mod turn;
 mod wanted;
 
 pub use cr_macros::{ExpandFault, Macro, MacroTable, Role, Seen};
-pub use expander::{Expander, expansion_is_however_it_is_fed};
+pub use expander::{Expander, expansion_is_however_it_is_fed, machines_run_on_as_names_grow};
 pub use good_macros::defined_macros_are_known;
 pub use machine::ExpStep;
 
