@@ -1,4 +1,5 @@
-use Rattle.std.proofs.Common.{refl}
+use Rattle.std.proofs.Common.{List, refl}
+use Rattle.cr_macros.specs.declared.macros.Seen.{Seen}
 use Rattle.cr_expand.specs.declared.machine.Machine.{Machine}
 use Rattle.cr_expand.specs.declared.closing.Ahead.{Ahead}
 use Rattle.cr_expand.specs.declared.closing.Search.{Search}
@@ -13,7 +14,7 @@ returns-in-Ok-clause-fed c =
     record {
       gives = λ names macros more. fed_gives names macros old now c.args.tokens.now more c.in-Ok.ensures.slots refl refl refl refl;
       running = λ names macros r t. fed_runs names macros old now c.args.self.now.ahead after c.args.self.now.fault c.args.tokens.now c.in-Ok.ensures.slots (refl {A = Search}) c.in-Ok.ensures.groups (fed_machine names macros old now c.args.tokens.now c.in-Ok.ensures.slots refl refl refl refl refl t) r;
-      seen = refl;
+      seen = refl {A = List Seen};
       used = refl;
       same = (refl, refl, refl, refl);
       fault = refl;
