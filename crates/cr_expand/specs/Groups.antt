@@ -1,11 +1,17 @@
 -- Groups of parentheses among slots, of which it is known where they end.
-use Rattle.std.specs.Prelude.{◌≡◌, ℕ, ◌+◌, ◌-◌, min, true, List, [], ◌∷◌, ◌++◌, length, drop, replicate, codes, ◌⊎◌}
+use Rattle.std.specs.Prelude.{◌≡◌, ℕ, ◌+◌, ◌-◌, min, Bool, true, false, List, [], ◌∷◌, ◌++◌, length, drop, replicate, codes, Option, Some, None, ◌⊎◌}
 use Rattle.cr_expand.specs.declared.held.Held.{Held}
 use Rattle.cr_expand.specs.declared.slot.Slot.{Slot}
 use Rattle.cr_expand.specs.declared.slot.Slot.TheVariants as slot
 use Rattle.cr_macros.specs.Tokens.{Text, is_mark}
 use Rattle.cr_expand.specs.Slots.{tokens}
 use Rattle.cr_expand.specs.Calls.{shown, IsInside}
+
+-- the slot is a `(`
+abbrev pub opens : List Text → Option Slot → Bool
+opens names None = false
+opens names (Some slot.End) = false
+opens names (Some (slot.Token h)) = is_mark (codes "(") (shown names h)
 
 -- The slots behind a `(` begin with the rest of its group, whose `)` is this far behind it.
 abbrev pub IsGroup : List Text → List Slot → ℕ → Type 0

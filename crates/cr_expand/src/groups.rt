@@ -1,6 +1,6 @@
 //! Groups of parentheses among slots, of which it is known where they end.
-ghost use Rattle.std.specs.Prelude.{◌≡◌, ◌≤◌, ◌<◌, ◌-◌, ◌++◌, OnOk, length, drop, replicate};
-ghost use Rattle.cr_expand.specs.Groups.{AreGroups, IsSpanAt};
+ghost use Rattle.std.specs.Prelude.{◌≡◌, ◌≤◌, ◌<◌, ◌-◌, ◌++◌, OnOk, length, drop, replicate, slice_get, slice_index_or, if◌then◌else◌};
+ghost use Rattle.cr_expand.specs.Groups.{opens, AreGroups, IsSpanAt};
 
 use crate::slot::Slot;
 use cr_base::{NameTable, OutOfMemory};
@@ -17,7 +17,8 @@ pub fn known_span(
     requires slot { i < length slots.now.items }
     requires number { i < length groups.now.items }
     requires groups { AreGroups names.now (drop i slots.now.items) (drop i groups.now.items) }
-    ensures { IsSpanAt names.now slots.now.items i result }
+    ensures number { result ≡ (if opens names.now (slice_get slots.now.items i) then slice_index_or groups.now.items i 0 else 0) }
+    ensures span { IsSpanAt names.now slots.now.items i result }
 {
     match slots[i] {
         Slot::End => 0,

@@ -6,7 +6,7 @@ use Rattle.cr_expand.proofs.closing.close_of.Goals as goal
 
 pub returns-then-span-gt0-clause-closed : goal.returns-then-span-gt0-clause-closed
 returns-then-span-gt0-clause-closed c = λ sets.
-    let g = span_known c.args.names.now c.args.slots.now.items 1 c.known_span-span.result c.known_span-span.ensures c.if-span-gt0.true in
+    let g = span_known c.args.names.now c.args.slots.now.items 1 c.known_span-span.result c.known_span-span.ensures.span c.if-span-gt0.true in
     closed_call c.args.names.now sets c.args.slots.now.items (close.At _) c.requires.slots (known_call c.args.names.now c.args.slots.now.items g.1 c.known_span-span.result _ g.0 g.2 g.4 refl)
 
 pub note_groups-requires-clause-place : goal.note_groups-requires-clause-place
