@@ -260,6 +260,7 @@ module _ (names : List Text) (m : Macro) (params : List Name) (a b : Slot) (insi
         few = (f.0, omega (arith, f.1, l));
         among = parts.2;
         size = parts.3;
+        places = (n, parts.4);
       }
 
   pub taken : (w : ℕ → Bool) (some raw : List (List Held)) (more : ℕ) → some ≡ all_kept w 0 lists → n ≡ (if m.variadic then length params else length inside) → Some raw ≡ counted (length params) m.variadic some

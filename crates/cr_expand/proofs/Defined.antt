@@ -14,6 +14,7 @@ use Rattle.cr_expand.specs.Held.{IsNamed}
 use Rattle.cr_expand.specs.Items.{IsTokenNamed, IsMacroKnown}
 use Rattle.cr_expand.specs.Machines.{IsGoodMacro, AreMacros}
 use Rattle.cr_expand.specs.GoodMacros.{KeepsMacros}
+use Rattle.cr_expand.proofs.KeptMachine.{all_macros_kept}
 use Rattle.cr_expand.proofs.Keeping.{macros_later}
 
 module _ (names : List Text) where
@@ -115,12 +116,13 @@ keeps_macros = record {
   none = λ names. record { known = λ n m e. absurd (nothing m e) };
   defined = λ names line old new a t l d.
       let k = definition_made names line d.0 33554432 t l d.1 in
-      set_known names old new d.0.name (Some d.0) a d.2 (λ m e. subst (λ x. IsNamed names d.0.name × IsGoodMacro names x) (same d.0 m e) (k.0.name, k));
+      set_known names old new d.0.name (Some d.0) a d.2 (λ m e. subst (λ x. IsNamed names d.0.name × IsGoodMacro names x) (equal d.0 m e) (k.0.name, k));
   undefined = λ names name old new a s. set_known names old new name None a s (λ m e. absurd (nothing m e));
   later = λ names new macros g a. macros_later names new g macros a;
+  same = λ names new macros file g a. all_macros_kept names new g macros file a;
 } where
   nothing : (m : Macro) → None ≡ Some m → ⊥
   nothing m e = cc
 
-  same : (a b : Macro) → Some a ≡ Some b → a ≡ b
-  same a b e = cc
+  equal : (a b : Macro) → Some a ≡ Some b → a ≡ b
+  equal a b e = cc

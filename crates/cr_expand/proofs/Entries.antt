@@ -66,6 +66,7 @@ entered names old now h m params a b inside closes end rest taken whole raw more
   raw = ap (λ x. x.raw) c ∙ t.raw_are ∙ all_kept_same whole (is_whole (macro_text names m)) 0 t.all (λ i l. v i (let k = t.few.0 in omega (arith, k, l)));
   among = t.among;
   size = t.size;
+  places = t.places;
   hide = ap (λ x. hidden names now.sets x.hide) c ∙ p.text ∙ ap (λ x. with_name (text_of names h.token.text) (both (hidden names old.sets h.hide.0) (hidden names old.sets x.hide.0))) e;
   hide_known = subst (λ x. x.hide < length now.sets) (sym c) p.known;
   wanted = λ i l. ap (λ x. slice_index_or x.wanted i false) c ∙ w i (let k = ap (λ x. x.more) c in let d = t.few.1 in omega (arith, k, l, d));

@@ -1,7 +1,7 @@
 -- A machine that was fed nothing, and what feeding adds.
-use Rattle.std.proofs.Common.{◌≡◌, ◌+◌, ◌-◌, ◌<◌, ◌≤◌, true, List, [], ◌∷◌, ◌++◌, length, map, refl, sym, ap, subst, ◌∙◌, arith, append_assoc, append-nil, Option, Some, None}
+use Rattle.std.proofs.Common.{◌≡◌, ℕ, suc, ◌+◌, ◌-◌, ◌<◌, ◌≤◌, true, List, [], ◌∷◌, ◌++◌, length, map, replicate, refl, sym, ap, subst, ◌∙◌, arith, append_assoc, append-nil, length-append, Option, Some, None}
 use Rattle.std.specs.List.{All}
-use Rattle.std.proofs.lemmas.List.{map-append}
+use Rattle.std.proofs.lemmas.List.{map-append, length-replicate}
 use Rattle.std.proofs.lemmas.List.Elements.{All-head, All-tail, All-nil, All-cons, All-append}
 use Rattle.cr_base.specs.NameTable.{IsDistinct}
 use Rattle.cr_base.specs.declared.token.PpTok.{PpTok}
@@ -24,9 +24,11 @@ use Rattle.cr_expand.specs.Slots.{pieces, tokens, ends, IsSlotKnown, AreSlotsKno
 use Rattle.cr_expand.specs.Feeding.{all_with, IsPutBack}
 use Rattle.cr_expand.specs.Machines.{total, IsMachine, IsCallKnown}
 use Rattle.cr_expand.specs.Expanders.{runs_by}
-use Rattle.cr_expand.specs.declared.closing.Search.{Search}
+use Rattle.cr_expand.specs.declared.closing.Ahead.{Ahead}
 use Rattle.cr_expand.specs.Calls.{IsSearched}
+use Rattle.cr_expand.specs.Groups.{AreNoted}
 use Rattle.cr_expand.proofs.Closes.{searched_fed}
+use Rattle.cr_expand.proofs.Spans.{groups_fed}
 use Rattle.cr_expand.proofs.Going.{current_before}
 use Rattle.cr_expand.proofs.Steps.{front, front_tokens, left_by}
 use Rattle.cr_expand.proofs.Calling.{tokens_known}
@@ -92,14 +94,29 @@ fed_machine names macros old now fed (hide, k, e, s) a b c d n t m = record {
   limit = subst (λ u. u ≤ LIMIT) (sym d) m.limit;
 }
 
-pub fed_runs : (names : List Text) (macros : Macros) (old now : Machine) (search : Search) (o : Option ExpandFault) (fed : List PpTok) → IsPutBack old.sets old.slots.items now.slots.items fed
-    → (IsMachine names macros old → IsMachine names macros now) → runs_by names macros old search o → runs_by names macros now search o
-fed_runs names macros old now search None fed (hide, h, e, s) f k = (f k.0, subst (λ l. IsSearched names l search) (sym s) (searched_fed names old.slots.items (tokens (all_with hide fed)) search k.1))
-fed_runs names macros old now search (Some x) fed p f k = tt
+length_tokens_with : (hide : HideSet) (fed : List PpTok) → length (tokens (all_with hide fed)) ≡ length fed
+length_tokens_with hide [] = refl
+length_tokens_with hide (t ∷ fed) = ap suc (length_tokens_with hide fed)
+
+noted_fed : (names : List Text) (slots more : List Slot) (groups : List ℕ) (n : ℕ) → length more ≡ n → AreNoted names slots groups → AreNoted names (slots ++ more) (groups ++ replicate n 0)
+noted_fed names slots more groups n l k = (
+  (let a = length-append groups (replicate n 0) in let b = length-append slots more in let c = length-replicate {A = ℕ} n 0 in omega (arith, a, b, c, l, k.0)),
+  groups_fed names slots more groups n k.0 k.1,
+)
+
+pub fed_runs : (names : List Text) (macros : Macros) (old now : Machine) (ahead after : Ahead) (o : Option ExpandFault) (fed : List PpTok) → IsPutBack old.sets old.slots.items now.slots.items fed
+    → after.search ≡ ahead.search → after.groups.items ≡ ahead.groups.items ++ replicate (length fed) 0
+    → (IsMachine names macros old → IsMachine names macros now) → runs_by names macros old ahead o → runs_by names macros now after o
+fed_runs names macros old now ahead after None fed (hide, h, e, s) p g f k = (
+  f k.0,
+  subst (IsSearched names now.slots.items) (sym p) (subst (λ l. IsSearched names l ahead.search) (sym s) (searched_fed names old.slots.items (tokens (all_with hide fed)) ahead.search k.1)),
+  subst (AreNoted names now.slots.items) (sym g) (subst (λ l. AreNoted names l (ahead.groups.items ++ replicate (length fed) 0)) (sym s) (noted_fed names old.slots.items (tokens (all_with hide fed)) ahead.groups.items (length fed) (length_tokens_with hide fed) k.2)),
+)
+fed_runs names macros old now ahead after (Some x) fed q p g f k = tt
 
 -- that no more comes changes nothing that is held
-pub finished_runs : (names : List Text) (macros : Macros) (m now : Machine) (search : Search) (o : Option ExpandFault) → now ≡ record m { finished = true } → runs_by names macros m search o → runs_by names macros now search o
-finished_runs names macros m now search o e k = subst (λ n. runs_by names macros n search o) (sym e) (by o k) where
-  by : (o : Option ExpandFault) → runs_by names macros m search o → runs_by names macros (record m { finished = true }) search o
-  by None k = (record { tables = k.0.tables; slots = k.0.slots; calls = k.0.calls; watched = k.0.watched; file = k.0.file; ends = k.0.ends; limit = k.0.limit }, k.1)
+pub finished_runs : (names : List Text) (macros : Macros) (m now : Machine) (ahead : Ahead) (o : Option ExpandFault) → now ≡ record m { finished = true } → runs_by names macros m ahead o → runs_by names macros now ahead o
+finished_runs names macros m now ahead o e k = subst (λ n. runs_by names macros n ahead o) (sym e) (by o k) where
+  by : (o : Option ExpandFault) → runs_by names macros m ahead o → runs_by names macros (record m { finished = true }) ahead o
+  by None k = (record { tables = k.0.tables; slots = k.0.slots; calls = k.0.calls; watched = k.0.watched; file = k.0.file; ends = k.0.ends; limit = k.0.limit }, k.1, k.2)
   by (Some x) k = tt

@@ -77,6 +77,10 @@ module _ (names new : List Text) (g : Grows names new) where
       ap (table_of new macros) (name_kept names new file g k)
       ∙ ap {B = Table} (λ f. record { macro = f; file = text_of names file }) (fun_ext (λ text. lookup_kept macros text (λ n m e. found_known names macros n m h e) macros (keys_known names macros h) (λ n q. refl)))
 
+  pub all_macros_kept : (macros : Macros) (file : Text) → AreMacros names macros → table_of new macros file ≡ table_of names macros file
+  all_macros_kept macros file h =
+      ap {B = Table} (λ f. record { macro = f; file = file }) (fun_ext (λ text. lookup_kept macros text (λ n m e. found_known names macros n m h e) macros (keys_known names macros h) (λ n q. refl)))
+
   pub means_kept : (macros : Macros) (o : Option Macro) → ((m : Macro) → o ≡ Some m → IsMacroKnown names m) → means_of new o ≡ means_of names o
   means_kept macros None h = refl
   means_kept macros (Some m) h = macro_kept m (h m refl)

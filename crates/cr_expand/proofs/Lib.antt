@@ -19,8 +19,13 @@ pub mod NextRules
 pub mod Going
 pub mod Entering
 pub mod Wholes
+pub mod Depths
 pub mod Closes
+pub mod Spans
 pub mod PartedLists
+pub mod Overs
+pub mod PartedGroups
+pub mod Lefts
 pub mod Turning
 pub mod FullMarks
 pub mod Interned
@@ -40,5 +45,6 @@ pub mod TurnSteps
 pub mod Silent
 pub mod Wants
 pub mod Fresh
+pub mod RunsOn
 pub mod RunLaw
 pub mod Defined

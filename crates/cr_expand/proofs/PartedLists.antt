@@ -1,7 +1,7 @@
 -- A call's tokens parted by commas, one after another.
-use Rattle.std.proofs.Common.{map, ◌≡◌, ℕ, suc, ◌+◌, ◌-◌, ◌<◌, ◌≤◌, Bool, true, false, cond, List, [], ◌∷◌, ◌++◌, length, set, refl, sym, ap, subst, ◌∙◌, arith, append_assoc, append-nil, length-append, Option, Some, None}
+use Rattle.std.proofs.Common.{map, ◌≡◌, ℕ, suc, ◌+◌, ◌-◌, ◌<◌, ◌≤◌, Bool, true, false, cond, List, [], ◌∷◌, ◌++◌, length, drop, set, refl, sym, ap, subst, ◌∙◌, arith, append_assoc, append-nil, length-append, Option, Some, None}
 use Rattle.std.specs.Prelude.{codes, ◌==◌, ◌&&◌, nat_le, if◌then◌else◌, slice_get}
-use Rattle.std.proofs.lemmas.List.{map-append}
+use Rattle.std.proofs.lemmas.List.{map-append, drop_at}
 use Rattle.std.specs.List.{All}
 use Rattle.std.proofs.lemmas.List.Elements.{All-nil, All-cons, All-append}
 use Rattle.cr_expand.specs.declared.held.Held.{Held}
@@ -14,9 +14,10 @@ use Rattle.cr_macros.specs.Expansion.{into_first, parted}
 use Rattle.cr_expand.specs.HideSets.{Sets}
 use Rattle.cr_expand.specs.Held.{held, all_held, all_args}
 use Rattle.cr_expand.specs.Slots.{tokens, ended}
-use Rattle.cr_expand.specs.Calls.{part_at, IsTokenAt, IsCallAt, IsAmong, ArePartedAt, AreKeptAt}
+use Rattle.cr_expand.specs.Calls.{part_at, part_slot, parted_slots, IsTokenAt, IsCallAt, IsAmong, ArePartedAt, AreKeptAt}
 use Rattle.cr_expand.specs.Wanted.{kept, all_kept, kept_more}
 use Rattle.cr_expand.specs.Partings.{lists_of, IsTaken}
+use Rattle.cr_expand.proofs.Closes.{length_tokens, tokens_append}
 use Rattle.cr_expand.proofs.Wholes.{kept_none, kept_one_more, all_kept_last, length_all_kept}
 
 length_map : {A B : Type 0} (f : A → B) (xs : List A) → length (map f xs) ≡ length xs
@@ -88,9 +89,6 @@ parting_ends names n inside lists list commas depth k = λ sets. sym (
     ∙ ap (λ a. all_args names sets lists ++ a) (onto_new (all_held names sets list) [])
     ∙ sym (map-append (all_held names sets) lists (list ∷ [])))
 
-tokens_append : (hs ks : List Held) → tokens (hs ++ ks) ≡ tokens hs ++ tokens ks
-tokens_append hs ks = map-append (λ h. slot.Token h) hs ks
-
 ended_more : (lists : List (List Held)) (list : List Held) → ended (lists ++ list ∷ []) ≡ ended lists ++ (tokens list ++ slot.End ∷ [])
 ended_more [] list = refl
 ended_more (l ∷ lists) list = ap (λ x. tokens l ++ slot.End ∷ x) (ended_more lists list) ∙ sym (append_assoc (tokens l) (slot.End ∷ ended lists) (tokens list ++ slot.End ∷ []))
@@ -108,6 +106,7 @@ abbrev pub PartedHere : List Text → ℕ → List Slot → ℕ → List (List H
 PartedHere names n slots i lists list commas depth a b end inside rest =
     (before left : List Held) × (inside ≡ before ++ left) × (2 + length before ≡ i) × (length (ended lists ++ tokens list) ≡ length before)
     × (slots ≡ a ∷ b ∷ ((ended lists ++ tokens list) ++ (tokens left ++ end ∷ rest))) × IsParting names n before lists list commas depth × All (All (IsAmong inside)) lists × All (IsAmong inside) list
+    × ((ended lists ++ tokens list) ++ parted_slots names commas depth left ≡ parted_slots names n 0 inside)
 
 abbrev pub IsPartedTo : List Text → ℕ → List Slot → List Slot → ℕ → ℕ → List (List Held) → List Held → ℕ → ℕ → Type 0
 IsPartedTo names n initial slots close i lists list commas depth =
@@ -115,7 +114,7 @@ IsPartedTo names n initial slots close i lists list commas depth =
     → PartedHere names n slots i lists list commas depth a b end inside rest
 
 pub parted_first : (names : List Text) (n : ℕ) (slots : List Slot) (close : ℕ) → IsPartedTo names n slots slots close 2 [] [] n 0
-parted_first names n slots close = λ a b end inside rest e f. ([], inside, refl, refl, refl, e, λ sets ts. refl, All-nil (All (IsAmong inside)), All-nil (IsAmong inside))
+parted_first names n slots close = λ a b end inside rest e f. ([], inside, refl, refl, refl, e, λ sets ts. refl, All-nil (All (IsAmong inside)), All-nil (IsAmong inside), refl)
 
 module _ (names : List Text) (n : ℕ) (slots : List Slot) (i : ℕ) (lists : List (List Held)) (list : List Held) (commas depth : ℕ) (a b end : Slot) (inside : List Held) (rest : List Slot) (close : ℕ) (f : close ≡ 2 + length inside) where
   abbrev Here : Type 0
@@ -129,12 +128,8 @@ module _ (names : List Text) (n : ℕ) (slots : List Slot) (i : ℕ) (lists : Li
       ∙ get_mid (ended lists ++ tokens list) (slot.Token h) (tokens left ++ end ∷ rest)
 
   token_of_here : i < close → Here → IsTokenAt slots i
-  token_of_here lt (before, [], p, q, r, s, t, u, v) = let l = ap length p in let m = length-append before [] in absurd (omega (arith, l, m, f, lt))
-  token_of_here lt (before, h ∷ left, p, q, r, s, t, u, v) = (h, at_token before left h q r s)
-
-  length_tokens : (hs : List Held) → length (tokens hs) ≡ length hs
-  length_tokens [] = refl
-  length_tokens (h ∷ hs) = ap suc (length_tokens hs)
+  token_of_here lt (before, [], p, q, r, s, t, u, v, w) = let l = ap length p in let m = length-append before [] in absurd (omega (arith, l, m, f, lt))
+  token_of_here lt (before, h ∷ left, p, q, r, s, t, u, v, w) = (h, at_token before left h q r s)
 
   more_of : (before left : List Held) (h : Held) → inside ≡ before ++ h ∷ left → inside ≡ (before ++ h ∷ []) ++ left
   more_of before left h p = p ∙ sym (append_assoc before (h ∷ []) left)
@@ -147,8 +142,8 @@ module _ (names : List Text) (n : ℕ) (slots : List Slot) (i : ℕ) (lists : Li
 
   pub here_stays : (h : Held) (d : ℕ) → i < close → slice_get slots i ≡ Some (slot.Token h) → ((sets : Sets) → part_at commas depth (held names sets h) ≡ Some d) → Here
       → PartedHere names n slots (i + 1) lists (list ++ h ∷ []) commas d a b end inside rest
-  here_stays h d lt g e (before, [], p, q, r, s, t, u, v) = let l = ap length p in let m = length-append before [] in absurd (omega (arith, l, m, f, lt))
-  here_stays h d lt g e (before, x ∷ left, p, q, r, s, t, u, v) =
+  here_stays h d lt g e (before, [], p, q, r, s, t, u, v, w) = let l = ap length p in let m = length-append before [] in absurd (omega (arith, l, m, f, lt))
+  here_stays h d lt g e (before, x ∷ left, p, q, r, s, t, u, v, z) =
       let same : slot.Token x ≡ slot.Token h = by (sym (at_token before left x q r s) ∙ g) in
       let w : x ≡ h = token_same x h same in (
         before ++ h ∷ [],
@@ -162,6 +157,10 @@ module _ (names : List Text) (n : ℕ) (slots : List Slot) (i : ℕ) (lists : Li
         parting_stays names n before lists list commas depth d h e t,
         u,
         All-append (IsAmong inside) list (h ∷ []) v (All-cons (IsAmong inside) h [] (among before left h (p ∙ ap (λ y. before ++ y ∷ left) w)) (All-nil (IsAmong inside))),
+        ap (λ l. l ++ parted_slots names commas d left) (ap (λ l. ended lists ++ l) (tokens_append list (h ∷ [])) ∙ sym (append_assoc (ended lists) (tokens list) (slot.Token h ∷ [])))
+            ∙ append_assoc (ended lists ++ tokens list) (slot.Token h ∷ []) (parted_slots names commas d left)
+            ∙ ap (λ l. (ended lists ++ tokens list) ++ l) (sym (ap (part_slot h (parted_slots names (commas - 1) depth left) (λ y. parted_slots names commas y left)) (e [])) ∙ ap (λ y. parted_slots names commas depth (y ∷ left)) (sym w))
+            ∙ z,
       ) where
         by : {x y : Slot} → Some x ≡ Some y → x ≡ y
         by e = cc
@@ -171,8 +170,8 @@ module _ (names : List Text) (n : ℕ) (slots : List Slot) (i : ℕ) (lists : Li
 
   pub here_parts : (h : Held) → i < close → slice_get slots i ≡ Some (slot.Token h) → ((sets : Sets) → part_at commas depth (held names sets h) ≡ None) → Here
       → PartedHere names n (set slots i slot.End) (i + 1) (lists ++ list ∷ []) [] (commas - 1) depth a b end inside rest
-  here_parts h lt g e (before, [], p, q, r, s, t, u, v) = let l = ap length p in let m = length-append before [] in absurd (omega (arith, l, m, f, lt))
-  here_parts h lt g e (before, x ∷ left, p, q, r, s, t, u, v) =
+  here_parts h lt g e (before, [], p, q, r, s, t, u, v, w) = let l = ap length p in let m = length-append before [] in absurd (omega (arith, l, m, f, lt))
+  here_parts h lt g e (before, x ∷ left, p, q, r, s, t, u, v, z) =
       let same : slot.Token x ≡ slot.Token h = by (sym (at_token before left x q r s) ∙ g) in
       let w : x ≡ h = token_same x h same in
       let grown : (ended lists ++ tokens list) ++ slot.End ∷ [] ≡ ended (lists ++ list ∷ []) ++ [] = append_assoc (ended lists) (tokens list) (slot.End ∷ []) ∙ sym (ended_more lists list) ∙ sym (append-nil (ended (lists ++ list ∷ []))) in (
@@ -188,6 +187,9 @@ module _ (names : List Text) (n : ℕ) (slots : List Slot) (i : ℕ) (lists : Li
         parting_parts names n before lists list commas depth h e t,
         All-append (All (IsAmong inside)) lists (list ∷ []) u (All-cons (All (IsAmong inside)) list [] v (All-nil (All (IsAmong inside)))),
         All-nil (IsAmong inside),
+        ap (λ l. l ++ parted_slots names (commas - 1) depth left) (sym grown) ∙ append_assoc (ended lists ++ tokens list) (slot.End ∷ []) (parted_slots names (commas - 1) depth left)
+            ∙ ap (λ l. (ended lists ++ tokens list) ++ l) (sym (ap (part_slot h (parted_slots names (commas - 1) depth left) (λ y. parted_slots names commas y left)) (e [])) ∙ ap (λ y. parted_slots names commas depth (y ∷ left)) (sym w))
+            ∙ z,
       ) where
         by : {x y : Slot} → Some x ≡ Some y → x ≡ y
         by e = cc
@@ -196,8 +198,8 @@ module _ (names : List Text) (n : ℕ) (slots : List Slot) (i : ℕ) (lists : Li
         token_same x y e = cc
 
   pub here_ends : i ≡ close → Here → ArePartedAt names n a b inside rest (lists ++ list ∷ []) (set slots i slot.End)
-  here_ends c (before, x ∷ left, p, q, r, s, t, u, v) = let l = ap length p in let m = length-append before (x ∷ left) in absurd (omega (arith, l, m, f, c))
-  here_ends c (before, [], p, q, r, s, t, u, v) = (
+  here_ends c (before, x ∷ left, p, q, r, s, t, u, v, w) = let l = ap length p in let m = length-append before (x ∷ left) in absurd (omega (arith, l, m, f, c))
+  here_ends c (before, [], p, q, r, s, t, u, v, w) = (
     ap (λ l. set l i slot.End) s
         ∙ ap (λ k. set (a ∷ b ∷ ((ended lists ++ tokens list) ++ end ∷ rest)) k slot.End) (let y : i ≡ suc (suc (length (ended lists ++ tokens list))) = omega arith in y)
         ∙ ap (λ l. a ∷ b ∷ l) (set_mid (ended lists ++ tokens list) end slot.End rest
@@ -206,14 +208,23 @@ module _ (names : List Text) (n : ℕ) (slots : List Slot) (i : ℕ) (lists : Li
     All-append (All (IsAmong inside)) lists (list ∷ []) u (All-cons (All (IsAmong inside)) list [] v (All-nil (All (IsAmong inside)))),
     ap length (ended_more lists list ∙ sym (append_assoc (ended lists) (tokens list) (slot.End ∷ []))) ∙ length-append (ended lists ++ tokens list) (slot.End ∷ [])
         ∙ (let l = ap length p in let m = length-append before [] in let x : length (ended lists ++ tokens list) + 1 ≡ suc (length inside) = omega (arith, r, l, m) in x),
+    ended_more lists list ∙ sym (append_assoc (ended lists) (tokens list) (slot.End ∷ [])) ∙ ap (λ l. l ++ slot.End ∷ []) (sym (append-nil (ended lists ++ tokens list)) ∙ w),
   )
 
   -- the place is one of the slots
   pub here_within : i ≤ close → Here → i < length slots
-  here_within le (before, [], p, q, r, s, t, u, v) =
+  here_within le (before, [], p, q, r, s, t, u, v, w) =
       let l = ap length s in let m = length-append (ended lists ++ tokens list) (end ∷ rest) in omega (arith, l, m, r, q)
-  here_within le (before, x ∷ left, p, q, r, s, t, u, v) =
+  here_within le (before, x ∷ left, p, q, r, s, t, u, v, w) =
       let l = ap length s in let m = length-append (ended lists ++ tokens list) (slot.Token x ∷ (tokens left ++ end ∷ rest)) in omega (arith, l, m, r, q)
+
+  -- from here on nothing is changed
+  pub here_same : (initial : List Slot) → initial ≡ a ∷ b ∷ (tokens inside ++ end ∷ rest) → Here → drop i initial ≡ drop i slots
+  here_same initial e (before, left, p, q, r, s, t, u, v, w) =
+      let left_over : (initial2 : List Slot) (hs : List Slot) → initial2 ≡ a ∷ b ∷ (hs ++ (tokens left ++ end ∷ rest)) → length hs ≡ length before → drop i initial2 ≡ tokens left ++ end ∷ rest = λ initial2 hs x y.
+      ap (drop i) x ∙ drop_at (a ∷ b ∷ hs) (tokens left ++ end ∷ rest) i (omega (arith, y, q)) in
+      left_over initial (tokens before) (e ∙ ap (λ l. a ∷ b ∷ (tokens l ++ end ∷ rest)) p ∙ ap (λ l. a ∷ b ∷ (l ++ end ∷ rest)) (tokens_append before left) ∙ ap (λ l. a ∷ b ∷ l) (append_assoc (tokens before) (tokens left) (end ∷ rest))) (length_tokens before)
+      ∙ sym (left_over slots (ended lists ++ tokens list) s r)
 
 -- the token at a place before the end
 pub token_here : (names : List Text) (n : ℕ) (initial slots : List Slot) (close i : ℕ) (lists : List (List Held)) (list : List Held) (commas depth : ℕ)
@@ -225,6 +236,11 @@ pub within_here : (names : List Text) (n : ℕ) (initial slots : List Slot) (clo
     → IsCallAt initial close → i ≤ close → IsPartedTo names n initial slots close i lists list commas depth → i < length slots
 within_here names n initial slots close i lists list commas depth (a, b, end, inside, rest, e, f) le k =
     here_within names n slots i lists list commas depth a b end inside rest close f le (k a b end inside rest e f)
+
+pub same_here : (names : List Text) (n : ℕ) (initial slots : List Slot) (close i : ℕ) (lists : List (List Held)) (list : List Held) (commas depth : ℕ)
+    → IsCallAt initial close → IsPartedTo names n initial slots close i lists list commas depth → drop i initial ≡ drop i slots
+same_here names n initial slots close i lists list commas depth (a, b, end, inside, rest, e, f) k =
+    here_same names n slots i lists list commas depth a b end inside rest close f initial e (k a b end inside rest e f)
 
 -- The same, where of the lists what is wanted is kept.
 abbrev pub IsKeptTo : List Text → ℕ → (ℕ → Bool) → List Slot → List Slot → ℕ → ℕ → List (List Held) → List Held → ℕ → ℕ → Type 0

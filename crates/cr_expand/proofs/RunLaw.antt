@@ -1,5 +1,5 @@
 -- However a list is fed, a machine gives its expansion.
-use Rattle.std.proofs.Common.{◌≡◌, ◌-◌, true, false, List, [], ◌∷◌, ◌++◌, map, refl, sym, ap, subst, ◌∙◌, append_assoc, append-nil}
+use Rattle.std.proofs.Common.{◌≡◌, ◌-◌, true, false, None, List, [], ◌∷◌, ◌++◌, map, refl, sym, ap, subst, ◌∙◌, append_assoc, append-nil}
 use Rattle.std.proofs.lemmas.List.{map-append}
 use Rattle.cr_base.specs.declared.token.PpTok.{PpTok}
 use Rattle.cr_expand.specs.declared.expander.Expander.{Expander}
@@ -12,11 +12,12 @@ use Rattle.cr_macros.specs.MacroTables.{Macros, table_of}
 use Rattle.cr_expand.specs.HideSets.{Grows}
 use Rattle.cr_expand.specs.Held.{IsNamed, watch_of, noted}
 use Rattle.cr_expand.specs.Running.{leads}
-use Rattle.cr_expand.specs.Machines.{IsUse}
-use Rattle.cr_expand.specs.Expanders.{left_over, IsFed, Steps, plain, Run, Begins, Fed, Gives, Goes, Finishes, GivesTheExpansion}
+use Rattle.cr_expand.specs.Machines.{IsUse, AreMacros}
+use Rattle.cr_expand.specs.Expanders.{left_over, IsRunning, IsFed, Steps, plain, Run, Begins, Fed, Gives, Goes, Grown, Finishes, GivesTheExpansion}
 use Rattle.cr_expand.proofs.Kept.{watch_kept}
 use Rattle.cr_expand.proofs.Noted.{noted_append}
 use Rattle.cr_expand.proofs.Sets.{grows_same, grows_then}
+use Rattle.cr_expand.proofs.RunsOn.{left_later}
 
 leads_nothing : (r : Answer (List Token)) → r ≡ leads [] [] r
 leads_nothing (Gave ts left events) = refl
@@ -101,6 +102,16 @@ module _ (macros : Macros) (names : List Text) (first : Expander) (watched : IsN
         subst (λ o. Follows new now fed o more) (append-nil out) (used at new e now fed out more [] [] r p (s.0 more p) refl);
   }
 
+  grown : (at new : List Text) (e : Expander) (fed out : List Token) → IsReached at e fed out → Grows at new → AreMacros at macros → IsRunning at macros e → e.fault ≡ None → IsReached new e fed out
+  grown at new e fed out r g known run f = record {
+    grows = grows_then names at new r.grows g;
+    from = r.from;
+    to = r.to;
+    follows = λ more q.
+        let x = r.follows more q in
+        record { shown = x.shown; events = x.events; out_is = x.out_is; gives = x.gives ∙ ap (leads x.shown x.events) (sym (left_later at new g macros e more known run f)); seen = x.seen };
+  }
+
   finished : (at : List Text) (e now : Expander) (fed out : List Token) → IsReached at e fed out → now ≡ record e { machine = record e.machine { finished = true } } → IsReached at now fed out
   finished at e now fed out r e1 = subst (λ n. IsReached at n fed out) (sym e1) (record {
     grows = r.grows;
@@ -116,6 +127,7 @@ module _ (macros : Macros) (names : List Text) (first : Expander) (watched : IsN
   reached (Fed {at} {e} {fed} {out} run tokens now n k) = fed_more at e now fed out tokens (reached run) n k
   reached (Gives {at} {e} {fed} {out} run t new now s) = gave at new e now fed out t (reached run) s
   reached (Goes {at} {e} {fed} {out} run new now s) = went at new e now fed out (reached run) s
+  reached (Grown {at} {e} {fed} {out} run new g known runs f) = grown at new e fed out (reached run) g known runs f
   reached (Finishes {at} {e} {fed} {out} run now k) = finished at e now fed out (reached run) k
 
 pub gives_the_expansion : GivesTheExpansion

@@ -50,7 +50,7 @@ module _ (names : List Text) (sets : Sets) (h : Held) (m : Macro) (params : List
   pub call_at : (file : Text) (slots rest : List Slot) (opens : Held) (more : List Token) (count n : ℕ) (m2 : Macro) → slots ≡ slot.Token h ∷ slot.Token opens ∷ rest → is_mark (codes "(") (held names sets opens) ≡ true
       → m.params ≡ Some params → count ≡ length params → IsClosed names sets slots (close.At n)
       → IsCallUse names sets slots more by_call h m count n
-  call_at file slots rest opens more count n m2 e g p q (a, b, inside, end, rest2, s, k, c) =
+  call_at file slots rest opens more count n m2 e g p q (a, b, inside, end, rest2, s, k, c, w) =
       let both = same_slots (slot.Token opens) a b rest (tokens inside ++ slot.Token end ∷ rest2) [] (sym e ∙ s) in
       record {
         params = params;
@@ -62,6 +62,7 @@ module _ (names : List Text) (sets : Sets) (h : Held) (m : Macro) (params : List
         counts = q;
         slots_are = e ∙ ap (λ r. slot.Token h ∷ slot.Token opens ∷ r) both.2;
         place = k;
+        within = w;
         used = opened (held names sets opens) (list_of names sets (tokens inside ++ slot.Token end ∷ rest2) more) g
             ∙ ap (λ l. closed_call (held names sets h) (macro_text names m) (map (text_of names) params) (to_close 0 l)) (list_tokens names sets inside (slot.Token end ∷ rest2) more)
             ∙ ap (closed_call (held names sets h) (macro_text names m) (map (text_of names) params)) (c (list_of names sets rest2 more));
@@ -125,7 +126,7 @@ turn_by names sets file slots more f g (turn.Stays h) e (rest, s, u) = (rest, s,
 turn_by names sets file slots more f g (turn.Predefined h p) e (rest, s, u) = (rest, s, e _ ∙ u)
 turn_by names sets file slots more f g (turn.Object h m) e (rest, s, u) = (rest, s, e _ ∙ u)
 turn_by names sets file slots more f g (turn.Call h m count n) e k =
-    record { params = k.params; opens = k.opens; inside = k.inside; closes = k.closes; rest = k.rest; macro_params = k.macro_params; counts = k.counts; slots_are = k.slots_are; place = k.place; used = e _ ∙ k.used }
+    record { params = k.params; opens = k.opens; inside = k.inside; closes = k.closes; rest = k.rest; macro_params = k.macro_params; counts = k.counts; slots_are = k.slots_are; place = k.place; within = k.within; used = e _ ∙ k.used }
 turn_by names sets file slots more f g (turn.Unclosed site) e (h, (rest, s, u)) = (h, (rest, s, e _ ∙ u))
 
 -- the first slot

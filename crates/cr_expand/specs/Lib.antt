@@ -19,3 +19,4 @@ pub mod Hiding
 pub mod Feeding
 pub mod Expanders
 pub mod GoodMacros
+pub mod Groups

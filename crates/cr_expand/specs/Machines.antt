@@ -28,7 +28,7 @@ use Rattle.cr_expand.specs.Ahead.{Next, next_token}
 use Rattle.cr_expand.specs.Running.{Waiting, current, before, goes_on_by, goes_on, leads, put_for, needs_more}
 use Rattle.cr_expand.specs.Slots.{pieces, tokens, ends, ended, begun, AreSlotsKnown}
 use Rattle.cr_expand.specs.Wanted.{is_wanted, is_whole, all_kept}
-use Rattle.cr_expand.specs.Calls.{IsAmong}
+use Rattle.cr_expand.specs.Calls.{IsAmong, parted_slots}
 
 -- what the name of a macro means; that of no macro has no body
 abbrev pub means_of : List Text → Option Macro → MacroText
@@ -170,6 +170,7 @@ pub record IsEntered (names : List Text) (old now : Machine) (h : Held) (m : Mac
   pub raw : call.raw ≡ all_kept (is_whole (macro_text names m)) 0 all
   pub among : All (All (IsAmong inside)) lists
   pub size : length (ended lists) ≡ suc (length inside)
+  pub places : (n : ℕ) × (ended lists ≡ parted_slots names n 0 inside ++ slot.End ∷ [])
   pub hide : hidden names now.sets call.hide ≡ with_name (text_of names h.token.text) (both (hidden names old.sets h.hide.0) (hidden names old.sets closes.hide.0))
   pub hide_known : call.hide < length now.sets
   pub wanted : (i : ℕ) → i ≤ call.more → slice_index_or call.wanted i false ≡ is_wanted (macro_text names m) i
@@ -210,6 +211,7 @@ pub record AreTaken (names : List Text) (now : List Slot) (m : Macro) (params : 
   pub few : (length all ≤ length params + 1) × (more ≤ length params)
   pub among : All (All (IsAmong inside)) lists
   pub size : length (ended lists) ≡ suc (length inside)
+  pub places : (n : ℕ) × (ended lists ≡ parted_slots names n 0 inside ++ slot.End ∷ [])
 
 -- Why the arguments aren't taken.
 abbrev pub IsMiscounted : List Text → Macro → List Name → List Held → Held → ExpandFault → Type 0

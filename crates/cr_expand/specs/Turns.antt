@@ -14,6 +14,7 @@ use Rattle.cr_macros.specs.MacroTables.{Macros, macro_named, macro_text, table_o
 use Rattle.cr_expand.specs.HideSets.{Sets}
 use Rattle.cr_expand.specs.Held.{held, all_held}
 use Rattle.cr_expand.specs.Slots.{pieces, tokens, ends}
+use Rattle.cr_expand.specs.Calls.{IsInside}
 use Rattle.cr_expand.specs.Running.{current, before, wants_more}
 
 -- the list that slots begin with, where more comes behind them
@@ -35,6 +36,7 @@ pub record IsCallUse (names : List Text) (sets : Sets) (slots : List Slot) (more
   pub counts : count ≡ length params
   pub slots_are : slots ≡ slot.Token h ∷ slot.Token opens ∷ (tokens inside ++ slot.Token closes ∷ rest)
   pub place : n ≡ 2 + length inside
+  pub within : IsInside names inside closes
   pub used : use_before (list_of names sets (slot.Token opens ∷ (tokens inside ++ slot.Token closes ∷ rest)) more)
       ≡ counted_call (held names sets h) (macro_text names m) (held names sets closes) (list_of names sets rest more) (arguments (map (text_of names) params) m.variadic (all_held names sets inside))
 

@@ -1,5 +1,5 @@
 //! The machine of macro expansion, which is fed and stepped.
-ghost use Rattle.std.specs.Prelude.{◌≡◌, ◌<◌, ◌≤◌, ◌^◌, ◌+◌, ◌++◌, [], List, OnOk, OnErr, IfOk, IfErr, Some, None, Err, length, map, true, false};
+ghost use Rattle.std.specs.Prelude.{◌≡◌, ◌<◌, ◌≤◌, ◌^◌, ◌+◌, ◌++◌, [], List, OnOk, OnErr, IfOk, IfErr, Some, None, Err, length, replicate, map, true, false};
 ghost use Rattle.cr_macros.specs.declared.fault.ExpandFault.{ExpandFault as TheFault};
 ghost use Rattle.cr_macros.specs.Tokens.{Text, Token};
 ghost use Rattle.cr_macros.specs.MacroTables.{Macros};
@@ -8,9 +8,9 @@ ghost use Rattle.cr_expand.specs.Held.{Faults};
 ghost use Rattle.cr_expand.specs.Ahead.{NextFollowsTheRules};
 ghost use Rattle.cr_expand.specs.Feeding.{IsPutBack};
 ghost use Rattle.cr_expand.specs.Machines.{AreMacros, IsStep, IsAhead, IsWantedAt, IsOutKnown, IsSameRun, ahead};
-ghost use Rattle.cr_expand.specs.Expanders.{left_over, IsRunning, IsFresh, IsFed, Steps, GivesTheExpansion};
+ghost use Rattle.cr_expand.specs.Expanders.{left_over, IsRunning, IsFresh, IsFed, Steps, RunsOn, GivesTheExpansion};
 
-use crate::closing::Search;
+use crate::closing::Ahead;
 use crate::held::Held;
 use crate::hide_sets::HideSets;
 use crate::machine::{ExpStep, LIMIT, Machine};
@@ -26,22 +26,25 @@ use std::collections::VecDeque;
 #[derive(Drop)]
 pub struct Expander {
     machine: Machine,
-    search: Search,
+    ahead: Ahead,
     fault: Option<ExpandFault>,
 }
 
-// Puts tokens behind the slots.
+// Puts tokens behind the slots, of which no groups are known.
 fn put_back(
     slots: &mut VecDeque<Slot>,
+    groups: &mut VecDeque<usize>,
     hides: &HideSets,
     tokens: &[PpTok],
 ) -> Result<(), OutOfMemory>
-    ensures { OnOk result (IsPutBack hides.now slots.old.items slots.new.items tokens.now) }
+    ensures slots { OnOk result (IsPutBack hides.now slots.old.items slots.new.items tokens.now) }
+    ensures groups { OnOk result (groups.new.items ≡ groups.old.items ++ replicate (length tokens.now) 0) }
 {
     let hide = hides.empty();
     for i in 0..tokens.len() {
         let token = tokens[i];
         slots.push_back(Slot::Token(Held { token, hide }))?;
+        groups.push_back(0)?;
     }
     Ok(())
 }
@@ -69,7 +72,7 @@ impl Expander {
                 used: work,
                 finished: false,
             },
-            search: Search::new(),
+            ahead: Ahead::new(alloc),
             fault: None,
         }
     }
@@ -82,7 +85,12 @@ impl Expander {
         ensures fed { OnOk result (IsFed self.old self.new tokens.now) }
         ensures memory { OnErr result (self.new.fault ≡ Some ExpandFault.OutOfMemory) }
     {
-        match put_back(&mut self.machine.slots, &self.machine.sets, tokens) {
+        match put_back(
+            &mut self.machine.slots,
+            &mut self.ahead.groups,
+            &self.machine.sets,
+            tokens,
+        ) {
             Ok(()) => Ok(()),
             Err(e) => {
                 self.fault = Some(ExpandFault::OutOfMemory);
@@ -127,7 +135,7 @@ impl Expander {
         if let Some(fault) = self.fault {
             return Err(fault);
         }
-        match self.machine.next(names, macros, &mut self.search) {
+        match self.machine.next(names, macros, &mut self.ahead) {
             Ok(step) => Ok(step),
             Err(fault) => {
                 self.fault = Some(fault);
@@ -170,4 +178,11 @@ pub fn expansion_is_however_it_is_fed()
 /// (C11 6.10.3): the uses up to the first that gives a token of the result. It does no work.
 pub fn the_next_token_follows_the_rules()
     ensures { NextFollowsTheRules }
+{}
+
+/// The law that a machine runs on where names are put into the table between two steps: its
+/// condition holds of the grown table, and what is left of the expansion is the same. It does no
+/// work.
+pub fn machines_run_on_as_names_grow()
+    ensures { RunsOn }
 {}

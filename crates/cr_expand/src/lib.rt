@@ -6,6 +6,7 @@ mod expander;
 mod fill;
 mod frame;
 mod good_macros;
+mod groups;
 mod head;
 mod held;
 mod hide_sets;
@@ -28,7 +29,10 @@ mod turn;
 mod wanted;
 
 pub use cr_macros::{ExpandFault, Macro, MacroTable, Role, Seen};
-pub use expander::{Expander, expansion_is_however_it_is_fed, the_next_token_follows_the_rules};
+pub use expander::{
+    Expander, expansion_is_however_it_is_fed, machines_run_on_as_names_grow,
+    the_next_token_follows_the_rules,
+};
 pub use good_macros::defined_macros_are_known;
 pub use machine::ExpStep;
 

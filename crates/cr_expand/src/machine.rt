@@ -15,11 +15,12 @@ ghost use Rattle.cr_expand.specs.declared.slot.Slot.{Slot as TheSlot};
 ghost use Rattle.cr_expand.specs.Held.{all_held};
 ghost use Rattle.cr_expand.specs.Slots.{tokens, AreSlotsKnown};
 ghost use Rattle.cr_expand.specs.Calls.{IsCallAt, IsSearched};
+ghost use Rattle.cr_expand.specs.Groups.{AreNoted, Leaves};
 ghost use Rattle.cr_expand.specs.HideSets.{Grows};
 ghost use Rattle.cr_expand.specs.Wanted.{is_marked_whole};
 ghost use Rattle.cr_expand.specs.Machines.{IsGiven, IsPut, IsSameRun, IsSameElsewhere, IsPredefinedUse, IsClosedAt, IsEntered, IsCallHeld, IsMachine, IsArgumentEnd, IsArgumentFault, BeginsWithEnd, AreMacros, put_for_call, AreTaken, IsMiscounted, IsTurnStep, IsTurnWanted, IsStep, IsAhead, BothFault, IsWantedAt, IsOutKnown};
 
-use crate::closing::Search;
+use crate::closing::{Ahead, Search};
 use crate::frame::Frame;
 use crate::held::Held;
 use crate::hide_sets::{HideSet, HideSets};
@@ -212,20 +213,30 @@ impl Machine {
     fn take_arguments(
         &mut self,
         names: &NameTable,
+        groups: &VecDeque<usize>,
         h: Held,
         m: &Macro,
         count: usize,
         close: usize,
         needs: &Needs,
     ) -> Result<(Vec<Vec<Held>>, usize), ExpandFault>
-        requires { IsCallAt self.old.slots.items close }
+        requires call { IsCallAt self.old.slots.items close }
+        requires noted { AreNoted names.now self.old.slots.items groups.now.items }
         ensures taken { (a b end : TheSlot) (inside : List TheHeld) (rest : List TheSlot) (params : List TheName) → self.old.slots.items ≡ a ∷ b ∷ (tokens inside ++ end ∷ rest) → close ≡ 2 + length inside → m.now.params ≡ Some params → count ≡ length params → IfOk result (λ r. AreTaken names.now self.new.slots.items m.now params a b inside rest (is_marked_whole needs.now) (map (λ v. v.items) r.0.items) r.1) }
         ensures faults { (a b end : TheSlot) (inside : List TheHeld) (rest : List TheSlot) (params : List TheName) → self.old.slots.items ≡ a ∷ b ∷ (tokens inside ++ end ∷ rest) → close ≡ 2 + length inside → m.now.params ≡ Some params → count ≡ length params → IfErr result (λ e. IsMiscounted names.now m.now params inside h e) }
         ensures small { IfOk result (λ r. r.1 < 2 ^ 63) }
         ensures same { IsSameElsewhere self.old self.new × (self.new.frames.items ≡ self.old.frames.items) }
     {
         let commas = most_commas(m.variadic, count, close);
-        let lists = part(self.alloc, names, &mut self.slots, close, commas, needs)?;
+        let lists = part(
+            self.alloc,
+            names,
+            &mut self.slots,
+            groups,
+            close,
+            commas,
+            needs,
+        )?;
         let more = lists.len() - 1;
         match counted(self.alloc, count, m.variadic, lists)? {
             None => Err(ExpandFault::ArgCount(h.token.site)),
@@ -237,12 +248,14 @@ impl Machine {
     fn enter(
         &mut self,
         names: &NameTable,
+        groups: &VecDeque<usize>,
         h: Held,
         m: &Macro,
         count: usize,
         close: usize,
     ) -> Result<(), ExpandFault>
         requires call { IsClosedAt self.old.slots.items close }
+        requires noted { AreNoted names.now self.old.slots.items groups.now.items }
         requires count { count < 2 ^ 63 }
         requires tables { AreTables names.now self.old.sets }
         requires slots { AreSlotsKnown names.now self.old.sets self.old.slots.items }
@@ -255,7 +268,7 @@ impl Machine {
     {
         let end = token_at(&self.slots, close);
         let needs = needs_of(self.alloc, names, m, count + 1)?;
-        let (raw, more) = self.take_arguments(names, h, m, count, close, &needs)?;
+        let (raw, more) = self.take_arguments(names, groups, h, m, count, close, &needs)?;
         let sets = &mut self.sets;
         let hide = hidden_by_call(self.alloc, names, sets, h.hide, end.hide, h.token.text)?;
         let Needs { expanded, .. } = needs;
@@ -341,17 +354,20 @@ impl Machine {
         &mut self,
         names: &mut NameTable,
         macros: &MacroTable,
-        search: &mut Search,
+        ahead: &mut Ahead,
     ) -> Result<Option<ExpStep>, ExpandFault>
         requires room { length names.old < 2 ^ 31 }
         requires macros { AreMacros names.old macros.now }
         requires machine { IsMachine names.old macros.now self.old }
-        requires search { IsSearched names.old self.old.slots.items search.old }
+        requires search { IsSearched names.old self.old.slots.items ahead.old.search }
+        requires noted { AreNoted names.old self.old.slots.items ahead.old.groups.items }
         ensures step { (more : List Token) → (self.old.finished ≡ true → more ≡ []) → IfOk result (λ o. IsTurnStep names.old names.new macros.now self.old self.new more o) }
         ensures wanted { IfOk result (λ o. IsTurnWanted names.old names.new macros.now self.old self.new o) }
         ensures faults { (more : List Token) → (self.old.finished ≡ true → more ≡ []) → IfErr result (λ e. BothFault names.old macros.now self.old more e) }
         ensures machine { OnOk result (IsMachine names.new macros.now self.new) }
-        ensures search { OnOk result (IsSearched names.new self.new.slots.items search.new) }
+        ensures search { OnOk result (IsSearched names.new self.new.slots.items ahead.new.search) }
+        ensures noted { OnOk result (AreNoted names.old self.old.slots.items ahead.new.groups.items) }
+        ensures leaves { OnOk result (Leaves names.old names.new self.old.slots.items self.new.slots.items) }
         ensures named { IfOk result (λ o. IfSome o (λ s. IsOutKnown names.new s)) }
         ensures grows { Grows names.old names.new }
         ensures same { OnOk result (IsSameRun self.old self.new) }
@@ -360,41 +376,34 @@ impl Machine {
         ensures length { OnOk result (length names.new ≤ length names.old + 2 ^ 26) }
     {
         expansion_follows_the_rules();
-        let turn = turn_of(
-            names,
-            macros,
-            &self.sets,
-            &self.slots,
-            search,
-            self.finished,
-        );
+        let turn = turn_of(names, macros, &self.sets, &self.slots, ahead, self.finished);
         match turn {
             Turn::End => Ok(Some(ExpStep::End)),
             Turn::Hungry => Ok(Some(ExpStep::Hungry)),
             Turn::Unclosed(site) => Err(ExpandFault::OpenCall(site)),
             Turn::ArgumentEnd => {
-                *search = Search::new();
+                ahead.search = Search::new();
                 let step = self.end_argument(names, macros)?;
                 Ok(step)
             }
             Turn::Stays(h) => {
-                *search = Search::new();
+                ahead.search = Search::new();
                 let step = self.keep(h)?;
                 Ok(Some(step))
             }
             Turn::Predefined(h, p) => {
-                *search = Search::new();
+                ahead.search = Search::new();
                 let step = self.predefined(names, h, p)?;
                 Ok(Some(step))
             }
             Turn::Object(h, m) => {
-                *search = Search::new();
+                ahead.search = Search::new();
                 let step = self.object(names, h, m)?;
                 Ok(Some(step))
             }
             Turn::Call(h, m, count, close) => {
-                *search = Search::new();
-                self.enter(names, h, m, count, close)?;
+                ahead.search = Search::new();
+                self.enter(names, &ahead.groups, h, m, count, close)?;
                 Ok(None)
             }
         }
@@ -405,18 +414,20 @@ impl Machine {
         &mut self,
         names: &mut NameTable,
         macros: &MacroTable,
-        search: &mut Search,
+        ahead: &mut Ahead,
     ) -> Result<ExpStep, ExpandFault>
         requires room { length names.old < 2 ^ 31 }
         requires macros { AreMacros names.old macros.now }
         requires machine { IsMachine names.old macros.now self.old }
-        requires search { IsSearched names.old self.old.slots.items search.old }
+        requires search { IsSearched names.old self.old.slots.items ahead.old.search }
+        requires noted { AreNoted names.old self.old.slots.items ahead.old.groups.items }
         ensures step { (more : List Token) → (self.old.finished ≡ true → more ≡ []) → IfOk result (λ s. IsStep names.old names.new macros.now self.old self.new more s) }
         ensures ahead { (more : List Token) → (self.old.finished ≡ true → more ≡ []) → IfOk result (λ s. IsAhead names.old names.new macros.now self.old self.new more s) }
         ensures wanted { IfOk result (λ s. IsWantedAt names.old macros.now self.old s) }
         ensures faults { (more : List Token) → (self.old.finished ≡ true → more ≡ []) → IfErr result (λ e. BothFault names.old macros.now self.old more e) }
         ensures machine { OnOk result (IsMachine names.new macros.now self.new) }
-        ensures search { OnOk result (IsSearched names.new self.new.slots.items search.new) }
+        ensures search { OnOk result (IsSearched names.new self.new.slots.items ahead.new.search) }
+        ensures noted { OnOk result (AreNoted names.new self.new.slots.items ahead.new.groups.items) }
         ensures named { IfOk result (λ s. IsOutKnown names.new s) }
         ensures grows { Grows names.old names.new }
         ensures same { OnOk result (IsSameRun self.old self.new) }
@@ -424,7 +435,10 @@ impl Machine {
         ensures length { OnOk result (length names.new ≤ length names.old + 2 ^ 26) }
     {
         loop {
-            if let Some(step) = self.turn(names, macros, search)? {
+            let before = self.slots.len();
+            let step = self.turn(names, macros, ahead)?;
+            ahead.go_on(before, self.slots.len())?;
+            if let Some(step) = step {
                 return Ok(step);
             }
         }

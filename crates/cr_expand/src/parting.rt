@@ -1,14 +1,16 @@
 //! A call's arguments, parted by its commas.
-ghost use Rattle.std.specs.Prelude.{◌≡◌, ◌≤◌, ◌<◌, ◌+◌, ◌^◌, ◌++◌, ◌∷◌, [], length, List, map, IfOk, OnOk, MatchOption, slice_get, slice_set, if◌then◌else◌};
+ghost use Rattle.std.specs.Prelude.{◌≡◌, ◌≤◌, ◌<◌, ◌+◌, ◌^◌, ◌++◌, ◌∷◌, [], length, drop, false, nat_lt, List, map, IfOk, OnOk, MatchOption, slice_get, slice_set, if◌then◌else◌};
 ghost use Rattle.cr_expand.specs.HideSets.{Sets};
 ghost use Rattle.cr_expand.specs.Held.{held};
 ghost use Rattle.cr_expand.specs.Slots.{tokens};
 ghost use Rattle.cr_expand.specs.Calls.{part_at, IsTokenAt, IsCallAt, AreKeptAt};
 ghost use Rattle.cr_expand.specs.Wanted.{kept_more, is_marked_whole};
 ghost use Rattle.cr_expand.specs.Partings.{IsTaken};
+ghost use Rattle.cr_expand.specs.Groups.{AreGroups, AreNoted, IsSpanAt};
 ghost use Rattle.cr_expand.specs.declared.held.Held.{Held as TheHeld};
 ghost use Rattle.cr_expand.specs.declared.slot.Slot.{Slot as TheSlot};
 
+use crate::groups::known_span;
 use crate::held::Held;
 use crate::slot::Slot;
 use crate::wanted::Needs;
@@ -85,6 +87,40 @@ impl Parting {
     }
 }
 
+// How many slots behind one needn't be looked at: those of a group that is known and ends before the
+// `)`, where no more tokens of the list are wanted than the `(`.
+fn passed(
+    names: &NameTable,
+    slots: &VecDeque<Slot>,
+    groups: &VecDeque<usize>,
+    i: usize,
+    close: usize,
+    whole: bool,
+) -> usize
+    requires slot { i < length slots.now.items }
+    requires number { i < length groups.now.items }
+    requires groups { AreGroups names.now (drop i slots.now.items) (drop i groups.now.items) }
+    ensures span { IsSpanAt names.now slots.now.items i result }
+    ensures within { 0 < result → (i + result < close) × (whole ≡ false) }
+{
+    if whole {
+        return 0;
+    }
+    let span = known_span(names, slots, groups, i);
+    if span < close.saturating_sub(i) {
+        span
+    } else {
+        0
+    }
+}
+
+// How many `(` are open behind a token, or behind the group that it begins.
+fn depth_past(span: usize, before: usize, behind: usize) -> usize
+    ensures { result ≡ (if nat_lt 0 span then before else behind) }
+{
+    if 0 < span { before } else { behind }
+}
+
 /// The token in a slot.
 pub fn token_at(slots: &VecDeque<Slot>, i: usize) -> Held
     requires { IsTokenAt slots.now.items i }
@@ -108,16 +144,18 @@ fn end_if(slots: &mut VecDeque<Slot>, i: usize, wanted: bool)
 
 /// Parts the tokens of a call, from the third slot to the `)`, by this many commas at most, and
 /// puts ends in the place of the commas and the `)`. Tells the lists, each whole where that is
-/// needed, and else its first token.
+/// needed, and else its first token; a group in one of these that is known is passed over.
 pub fn part(
     alloc: Global,
     names: &NameTable,
     slots: &mut VecDeque<Slot>,
+    groups: &VecDeque<usize>,
     close: usize,
     commas: usize,
     needs: &Needs,
 ) -> Result<Vec<Vec<Held>>, OutOfMemory>
-    requires { IsCallAt slots.old.items close }
+    requires call { IsCallAt slots.old.items close }
+    requires noted { AreNoted names.now slots.old.items groups.now.items }
     ensures { (a b end : TheSlot) (inside : List TheHeld) (rest : List TheSlot) → slots.old.items ≡ a ∷ b ∷ (tokens inside ++ end ∷ rest) → close ≡ 2 + length inside → IfOk result (λ lists. AreKeptAt names.now commas (is_marked_whole needs.now) a b inside rest (map (λ v. v.items) lists.items) slots.new.items) }
 {
     let mut parting = Parting {
@@ -126,10 +164,16 @@ pub fn part(
         depth: 0,
         commas,
     };
-    for i in 2..close {
+    let mut i = 2;
+    while i < close {
+        let whole = needs.is_whole(parting.lists.len());
+        let span = passed(names, slots, groups, i, close, whole);
+        let depth = parting.depth;
         let h = token_at(slots, i);
         let parts = parting.take(alloc, names, needs, h)?;
         end_if(slots, i, parts);
+        parting.depth = depth_past(span, depth, parting.depth);
+        i += span + 1;
     }
     end_if(slots, close, true);
     let Parting {

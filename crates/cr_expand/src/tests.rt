@@ -280,7 +280,7 @@ const LINES: [&[u8]; 7] = [
     b"# define D ~( a ) a a",
 ];
 
-const EXPANSIONS: [(&[u8], &[u8], u32); 10] = [
+const EXPANSIONS: [(&[u8], &[u8], u32); 14] = [
     (b"f ( 2 ) ( 9 )", b"2 * 9 * g End", 13),
     (b"S ( a  \"b\\n\" )", b"\"a \\\"b\\\\n\\\"\" End", 2),
     (b"E ( 1 )", b"p ( 1 ) End", 5),
@@ -291,6 +291,14 @@ const EXPANSIONS: [(&[u8], &[u8], u32); 10] = [
     (b"C ( 1", b"OpenCall", 0),
     (b"Q ( ) D ( Q ( ) 1 )", b"1 1 End", 5),
     (b"__LINE__ __FILE__", b"1 \"a.c\" End", 4),
+    (
+        b"D ( D ( ( 1 , 2 ) ) )",
+        b"( 1 , 2 ) ( 1 , 2 ) ( 1 , 2 ) ( 1 , 2 ) End",
+        32,
+    ),
+    (b"S ( D ( ( 1 , 2 ) ) )", b"\"D ( ( 1 , 2 ) )\" End", 2),
+    (b"C ( ( 1 , 2 ) 3 , 4 )", b"( 1 , 2 ) 34 End", 7),
+    (b"D ( Q ( ) ( Q ( ) ) )", b"( ) ( ) End", 7),
 ];
 
 #[test]

@@ -12,9 +12,10 @@ ghost use Rattle.cr_expand.specs.Held.{held, AreTables, IsKnown};
 ghost use Rattle.cr_expand.specs.Heading.{AreMacrosKnown};
 ghost use Rattle.cr_expand.specs.Slots.{AreSlotsKnown};
 ghost use Rattle.cr_expand.specs.Calls.{IsSearched};
+ghost use Rattle.cr_expand.specs.Groups.{AreNoted};
 ghost use Rattle.cr_expand.specs.Turns.{IsTurn, IsTurnOf, IsNext, IsWanting};
 
-use crate::closing::{Close, Search, close_of};
+use crate::closing::{Ahead, Close, close_of};
 use crate::head::{Head, head_of};
 use crate::held::Held;
 use crate::hide_sets::HideSets;
@@ -47,7 +48,7 @@ pub enum Turn<'a> {
 fn group_turn<'a>(
     names: &NameTable,
     slots: &VecDeque<Slot>,
-    search: &mut Search,
+    ahead: &mut Ahead,
     finished: bool,
     h: Held,
     m: &'a Macro,
@@ -55,13 +56,15 @@ fn group_turn<'a>(
 ) -> Turn<'a>
     requires slots { 2 ≤ length slots.now.items }
     requires count { count < 2 ^ 63 }
-    requires search { IsSearched names.now slots.now.items search.old }
-    ensures search { IsSearched names.now slots.now.items search.new }
+    requires search { IsSearched names.now slots.now.items ahead.old.search }
+    requires noted { AreNoted names.now slots.now.items ahead.old.groups.items }
+    ensures search { IsSearched names.now slots.now.items ahead.new.search }
+    ensures noted { AreNoted names.now slots.now.items ahead.new.groups.items }
     ensures wanting { (sets : Sets) (opens : TheHeld) (rest : List TheSlot) (params : List TheName) → slots.now.items ≡ Slot.Token h ∷ Slot.Token opens ∷ rest → is_mark_text (codes "(") (held names.now sets opens) ≡ true → IsWanting names.now sets finished slots.now.items (λ x. call_of (held names.now sets x) (macro_text names.now m.now) (map (text_of names.now) params)) result }
     ensures means { (sets : Sets) (file : Text) (opens : TheHeld) (rest : List TheSlot) (params : List TheName) (more : List Token) → slots.now.items ≡ Slot.Token h ∷ Slot.Token opens ∷ rest → is_mark_text (codes "(") (held names.now sets opens) ≡ true → m.now.params ≡ Some params → count ≡ length params → (finished ≡ true → more ≡ []) → IsTurn names.now sets file slots.now.items more (call_of (held names.now sets h) (macro_text names.now m.now) (map (text_of names.now) params)) result }
     ensures head { (macros : Macros) → macro_named h.token.text macros ≡ Some m.now → IsTurnOf macros h result }
 {
-    match close_of(names, slots, search) {
+    match close_of(names, slots, ahead) {
         Close::At(close) => Turn::Call(h, m, count, close),
         Close::Missing => Turn::Unclosed(h.token.site),
         Close::NotYet => {
@@ -78,15 +81,17 @@ fn group_turn<'a>(
 fn call_turn<'a>(
     names: &NameTable,
     slots: &VecDeque<Slot>,
-    search: &mut Search,
+    ahead: &mut Ahead,
     finished: bool,
     h: Held,
     m: &'a Macro,
     count: usize,
 ) -> Turn<'a>
     requires count { count < 2 ^ 63 }
-    requires search { IsSearched names.now slots.now.items search.old }
-    ensures search { IsSearched names.now slots.now.items search.new }
+    requires search { IsSearched names.now slots.now.items ahead.old.search }
+    requires noted { AreNoted names.now slots.now.items ahead.old.groups.items }
+    ensures search { IsSearched names.now slots.now.items ahead.new.search }
+    ensures noted { AreNoted names.now slots.now.items ahead.new.groups.items }
     ensures wanting { (sets : Sets) (rest : List TheSlot) (params : List TheName) → slots.now.items ≡ Slot.Token h ∷ rest → IsWanting names.now sets finished slots.now.items (λ x. call_of (held names.now sets x) (macro_text names.now m.now) (map (text_of names.now) params)) result }
     ensures means { (sets : Sets) (file : Text) (rest : List TheSlot) (params : List TheName) (more : List Token) → slots.now.items ≡ Slot.Token h ∷ rest → m.now.params ≡ Some params → count ≡ length params → (finished ≡ true → more ≡ []) → IsTurn names.now sets file slots.now.items more (call_of (held names.now sets h) (macro_text names.now m.now) (map (text_of names.now) params)) result }
     ensures head { (macros : Macros) → macro_named h.token.text macros ≡ Some m.now → IsTurnOf macros h result }
@@ -102,7 +107,7 @@ fn call_turn<'a>(
         Some(Slot::End) => Turn::Stays(h),
         Some(Slot::Token(next)) => {
             if is_mark(names, b"(", next.token) {
-                group_turn(names, slots, search, finished, h, m, count)
+                group_turn(names, slots, ahead, finished, h, m, count)
             } else {
                 Turn::Stays(h)
             }
@@ -116,15 +121,17 @@ fn token_turn<'a>(
     macros: &'a MacroTable,
     sets: &HideSets,
     slots: &VecDeque<Slot>,
-    search: &mut Search,
+    ahead: &mut Ahead,
     finished: bool,
     h: Held,
 ) -> Turn<'a>
     requires tables { AreTables names.now sets.now }
     requires macros { AreMacrosKnown names.now macros.now }
     requires token { IsKnown names.now sets.now h }
-    requires search { IsSearched names.now slots.now.items search.old }
-    ensures search { IsSearched names.now slots.now.items search.new }
+    requires search { IsSearched names.now slots.now.items ahead.old.search }
+    requires noted { AreNoted names.now slots.now.items ahead.old.groups.items }
+    ensures search { IsSearched names.now slots.now.items ahead.new.search }
+    ensures noted { AreNoted names.now slots.now.items ahead.new.groups.items }
     ensures wanting { (file : Text) (rest : List TheSlot) → slots.now.items ≡ Slot.Token h ∷ rest → IsWanting names.now sets.now finished slots.now.items (λ x. use_of (table_of names.now macros.now file) (held names.now sets.now x)) result }
     ensures means { (file : Text) (rest : List TheSlot) (more : List Token) → slots.now.items ≡ Slot.Token h ∷ rest → (finished ≡ true → more ≡ []) → IsTurn names.now sets.now file slots.now.items more (use_of (table_of names.now macros.now file) (held names.now sets.now h)) result }
     ensures head { IsTurnOf macros.now h result }
@@ -134,7 +141,7 @@ fn token_turn<'a>(
         Head::Predefined(p) => Turn::Predefined(h, p),
         Head::Named(m) => match &m.params {
             None => Turn::Object(h, m),
-            Some(params) => call_turn(names, slots, search, finished, h, m, params.items().len()),
+            Some(params) => call_turn(names, slots, ahead, finished, h, m, params.items().len()),
         },
     }
 }
@@ -146,20 +153,22 @@ pub fn turn_of<'a>(
     macros: &'a MacroTable,
     sets: &HideSets,
     slots: &VecDeque<Slot>,
-    search: &mut Search,
+    ahead: &mut Ahead,
     finished: bool,
 ) -> Turn<'a>
     requires tables { AreTables names.now sets.now }
     requires macros { AreMacrosKnown names.now macros.now }
     requires slots { AreSlotsKnown names.now sets.now slots.now.items }
-    requires search { IsSearched names.now slots.now.items search.old }
-    ensures search { IsSearched names.now slots.now.items search.new }
+    requires search { IsSearched names.now slots.now.items ahead.old.search }
+    requires noted { AreNoted names.now slots.now.items ahead.old.groups.items }
+    ensures search { IsSearched names.now slots.now.items ahead.new.search }
+    ensures noted { AreNoted names.now slots.now.items ahead.new.groups.items }
     ensures wanting { (file : Text) → IsWanting names.now sets.now finished slots.now.items (λ x. use_of (table_of names.now macros.now file) (held names.now sets.now x)) result }
     ensures means { (file : Text) (more : List Token) → (finished ≡ true → more ≡ []) → IsNext names.now sets.now macros.now file slots.now.items more result }
 {
     match slots.front() {
         None => { if finished { Turn::End } else { Turn::Hungry } }
         Some(Slot::End) => Turn::ArgumentEnd,
-        Some(Slot::Token(h)) => token_turn(names, macros, sets, slots, search, finished, *h),
+        Some(Slot::Token(h)) => token_turn(names, macros, sets, slots, ahead, finished, *h),
     }
 }

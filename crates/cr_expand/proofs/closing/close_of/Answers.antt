@@ -1,27 +1,30 @@
-use Rattle.std.proofs.Common.{◌≡◌, ◌<◌, ◌≤◌, length, arith, sym, ◌∙◌, ap}
-use Rattle.cr_expand.proofs.Closes.{searched_found, found_more, found_close, found_missing, found_not_yet, here}
+use Rattle.std.proofs.Common.{arith, refl, inr}
+use Rattle.cr_expand.specs.declared.closing.Close.TheVariants as close
+use Rattle.cr_expand.proofs.Closes.{searched_found, closed_call, known_call, span_known}
+use Rattle.cr_expand.proofs.Spans.{end_place}
 use Rattle.cr_expand.proofs.closing.close_of.Goals as goal
 
-pub loop-i-init : goal.loop-i-init
-loop-i-init c = record { small = c.requires.search.0; found = searched_found c.args.names.now c.args.slots.now.items c.args.search.now c.requires.slots c.requires.search }
+pub returns-then-span-gt0-clause-closed : goal.returns-then-span-gt0-clause-closed
+returns-then-span-gt0-clause-closed c = λ sets.
+    let g = span_known c.args.names.now c.args.slots.now.items 1 c.known_span-span.result c.known_span-span.ensures.span c.if-span-gt0.true in
+    closed_call c.args.names.now sets c.args.slots.now.items (close.At _) c.requires.slots (known_call c.args.names.now c.args.slots.now.items g.1 c.known_span-span.result _ g.0 g.2 g.4 refl)
 
-pub returns-in-End-clause-closed : goal.returns-in-End-clause-closed
-returns-in-End-clause-closed c = λ sets.
-    let lt : c.loop-i.i < length c.args.slots.now.items = omega (arith, c.args.slots.now.ok) in
-    found_missing c.args.names.now sets c.args.slots.now.items c.loop-i.i c.loop-i.depth c.loop-i.invariant.found lt (here c.args.slots.now.items c.loop-i.i c.index.result.now _ lt c.index.ensures c.in-End.is)
+pub note_groups-requires-clause-place : goal.note_groups-requires-clause-place
+note_groups-requires-clause-place c =
+    let p = end_place c.args.names.now c.args.slots.now.items 2 c.in-At.end (c.in-At.ensures.ends 2 (searched_found c.args.names.now c.args.slots.now.items c.args.ahead.now.search c.requires.search)) in omega (arith, p.1)
 
-pub returns-in-None-clause-closed : goal.returns-in-None-clause-closed
-returns-in-None-clause-closed c = λ sets.
-    let lt : c.loop-i.i < length c.args.slots.now.items = omega (arith, c.args.slots.now.ok) in
-    found_close c.args.names.now sets c.args.slots.now.items c.loop-i.i c.loop-i.depth c.in-Token.h c.loop-i.invariant.found lt (here c.args.slots.now.items c.loop-i.i c.index.result.now _ lt c.index.ensures c.in-Token.is) (c.in-None.ensures.depth sets)
+pub returns-in-At-clause-closed : goal.returns-in-At-clause-closed
+returns-in-At-clause-closed c = λ sets.
+    closed_call c.args.names.now sets c.args.slots.now.items (close.At c.in-At.end) c.requires.slots (c.in-At.ensures.ends 2 (searched_found c.args.names.now c.args.slots.now.items c.args.ahead.now.search c.requires.search))
 
-pub loop-i-preserved : goal.loop-i-preserved
-loop-i-preserved c =
-    let lt : c.loop-i.i < length c.args.slots.now.items = omega (arith, c.args.slots.now.ok) in
+pub returns-in-At-clause-search : goal.returns-in-At-clause-search
+returns-in-At-clause-search c = (c.close_behind-close.ensures.small, inr (c.close_behind-close.ensures.found 2 (searched_found c.args.names.now c.args.slots.now.items c.args.ahead.now.search c.requires.search)))
+
+pub returns-in_default : goal.returns-in_default
+returns-in_default c =
+    let f = searched_found c.args.names.now c.args.slots.now.items c.args.ahead.now.search c.requires.search in
     record {
-      small = omega (arith, c.in-Some.ensures.small);
-      found = found_more c.args.names.now c.args.slots.now.items c.loop-i.i c.loop-i.depth c.in-Some.behind c.in-Token.h c.loop-i.invariant.found lt (here c.args.slots.now.items c.loop-i.i c.index.result.now _ lt c.index.ensures c.in-Token.is) c.in-Some.ensures.depth;
+      closed = λ sets. closed_call c.args.names.now sets c.args.slots.now.items c.close_behind-close.result c.requires.slots (c.close_behind-close.ensures.ends 2 f);
+      search = (c.close_behind-close.ensures.small, inr (c.close_behind-close.ensures.found 2 f));
+      noted = c.requires.noted;
     }
-
-pub returns-clause-closed : goal.returns-clause-closed
-returns-clause-closed c = λ sets. found_not_yet c.args.names.now sets c.args.slots.now.items c.loop-i.i c.loop-i.depth c.loop-i.invariant.found (omega (arith, c.args.slots.now.ok))

@@ -5,6 +5,7 @@ use Rattle.cr_expand.proofs.turn.turn_of.Goals as goal
 pub returns-in-Some-Token : goal.returns-in-Some-Token
 returns-in-Some-Token c = record {
   search = c.token_turn.ensures.search;
+  noted = c.token_turn.ensures.noted;
   wanting = λ file.
       let lt : 0 < length c.args.slots.now.items = omega (arith, c.in-Some-Token.ensures.variant.0 refl, c.args.slots.now.ok) in
       let s = first_is c.args.slots.now.items c.in-Some-Token.field-0.now _ lt c.in-Some-Token.ensures.lookup c.in-Some-Token.field-0-is in

@@ -1,5 +1,7 @@
-use Rattle.std.proofs.Common.{sym, subst, ◌∙◌}
+use Rattle.std.proofs.Common.{sym, subst, ◌∙◌, arith}
 use Rattle.std.proofs.lemmas.Result.{err_from_is_err_and}
+use Rattle.cr_expand.specs.Calls.{IsSearched}
+use Rattle.cr_expand.proofs.Lefts.{after_step}
 use Rattle.cr_expand.specs.Machines.{IsTurnStep, IsTurnWanted}
 use Rattle.cr_expand.proofs.Silent.{silent_more, faults_after, step_after, ahead_after, wanted_after}
 use Rattle.cr_expand.proofs.machine.Machine.next.Goals as goal
@@ -30,5 +32,6 @@ loop-step-preserved c = record {
       silent_more c.args.names.now c.loop-step.names c.turn.new.names c.args.macros.now c.args.self.now c.loop-step.self c.turn.new.self c.loop-step.invariant.silent
       (λ more q. subst (λ o. IsTurnStep c.loop-step.names c.turn.new.names c.args.macros.now c.loop-step.self c.turn.new.self more o) c.in_default.is (c.in_ok-step.ensures.step more q))
       (subst (λ o. IsTurnWanted c.loop-step.names c.turn.new.names c.args.macros.now c.loop-step.self c.turn.new.self o) c.in_default.is c.in_ok-step.ensures.wanted) c.in_ok-step.ensures.machine c.in_ok-step.ensures.same;
-  search = c.in_ok-step.ensures.search;
+  search = subst (IsSearched c.turn.new.names c.turn.new.self.slots.items) (sym c.go_on.ensures.search) c.in_ok-step.ensures.search;
+  noted = after_step c.loop-step.names c.turn.new.names c.loop-step.self.slots.items c.turn.new.self.slots.items c.turn.new.ahead.groups.items c.go_on.new.self.groups.items c.len-before.result c.len.result c.in_ok-step.ensures.leaves c.in_ok-step.ensures.noted (omega (arith, c.len-before.ensures, c.loop-step.self.slots.ok)) (omega (arith, c.len.ensures, c.turn.new.self.slots.ok)) c.in_ok-go_on.ensures.groups;
 }

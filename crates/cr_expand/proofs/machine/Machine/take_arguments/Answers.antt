@@ -8,11 +8,11 @@ use Rattle.cr_expand.specs.Wanted.{counted, is_marked_whole}
 use Rattle.cr_expand.proofs.machine.Machine.take_arguments.Goals as goal
 
 pub most_commas-commas-requires : goal.most_commas-commas-requires
-most_commas-commas-requires c = call_place c.args.self.now.slots.items c.args.close c.requires
+most_commas-commas-requires c = call_place c.args.self.now.slots.items c.args.close c.requires.call
 
 pub overflow_sub-more : goal.overflow_sub-more
 overflow_sub-more c =
-    let k : IsCallAt c.args.self.now.slots.items c.args.close = c.requires in
+    let k : IsCallAt c.args.self.now.slots.items c.args.close = c.requires.call in
     let r = c.in_ok-lists.ensures k.0 k.1 k.2 k.3 k.4 k.5 k.6 in
     let s = some_lists c.args.names.now c.args.m.now [] k.0 k.1 k.3 k.4 c.part.new.slots.items r.0 c.most_commas-commas.result r.1 in
     let l = length_map (λ v. v.items) c.in_ok-lists.lists.items in

@@ -1,4 +1,4 @@
-use Rattle.std.proofs.Common.{◌-◌, ◌≤◌, [], drop, refl, sym, ap, subst, arith}
+use Rattle.std.proofs.Common.{◌-◌, ◌≤◌, [], drop, refl, sym, ap, subst, ◌∙◌, arith}
 use Rattle.std.proofs.lemmas.Result.{err_from_is_err_and}
 use Rattle.cr_expand.specs.declared.machine.TheConstants.{LIMIT}
 use Rattle.cr_expand.specs.declared.slot.Slot.TheVariants as slot
@@ -15,7 +15,8 @@ use Rattle.cr_expand.proofs.Arguments.{unclosed, predefined_fault, miscounts}
 use Rattle.cr_expand.proofs.TurnSteps.{head_known, closed_at, is_more, put_from, ended_step, ended_fault, ended_machine, ended_smaller, entered_step, entered_machine, entered_smaller}
 use Rattle.cr_expand.proofs.Wants.{next_finish, no_calls, end_gives, end_ahead, wanting_end, wanting_hungry, ended_wanted, entered_wanted}
 use Rattle.cr_macros.specs.MacroTables.{table_of}
-use Rattle.cr_expand.specs.Slots.{ends}
+use Rattle.cr_expand.specs.Slots.{ends, tokens}
+use Rattle.cr_expand.proofs.Lefts.{leaves_front, leaves_same, leaves_ended, leaves_entered}
 use Rattle.cr_expand.proofs.Keeping.{gives_machine, object_machine}
 use Rattle.cr_expand.proofs.machine.Machine.turn.Goals as goal
 
@@ -216,3 +217,36 @@ returns-in_ok-enter-in-Call-clause-wanted c =
     let u = next_call c.args.names.now c.args.self.now.sets c.args.macros.now (text_of c.args.names.now c.args.self.now.file) [] c.args.self.now.slots.items c.in-Call.h c.in-Call.m c.in-Call.count c.in-Call.close (c.in-Call.ensures.means (text_of c.args.names.now c.args.self.now.file) [] (λ _. refl)) in
     let i = c.in_ok-enter-in-Call.ensures.entered (slot.Token c.in-Call.h) (slot.Token u.0.opens) u.0.inside u.0.closes u.0.rest u.0.params u.0.slots_are u.0.place u.0.macro_params u.0.counts in
     (entered_wanted c.args.names.now c.args.self.now c.enter.new.self c.in-Call.h c.in-Call.m.now [] u.0.params u.0.inside u.0.closes u.0.rest i, refl)
+
+pub returns-in-End-clause-leaves : goal.returns-in-End-clause-leaves
+returns-in-End-clause-leaves c = leaves_same c.args.names.now c.args.self.now.slots.items
+
+pub returns-in-Hungry-clause-leaves : goal.returns-in-Hungry-clause-leaves
+returns-in-Hungry-clause-leaves c = leaves_same c.args.names.now c.args.self.now.slots.items
+
+pub returns-in_ok-step-in-Stays-clause-leaves : goal.returns-in_ok-step-in-Stays-clause-leaves
+returns-in_ok-step-in-Stays-clause-leaves c =
+    let u = next_stays c.args.names.now c.args.self.now.sets c.args.macros.now (text_of c.args.names.now c.args.self.now.file) [] c.args.self.now.slots.items c.in-Stays.h (c.in-Stays.ensures.means (text_of c.args.names.now c.args.self.now.file) [] (λ _. refl)) in
+    leaves_front c.args.names.now c.args.names.now c.args.self.now.sets c.args.self.now.slots.items c.keep.new.self.slots.items [] u.0 (slot.Token c.in-Stays.h) (grows_same c.args.names.now) c.requires.machine.slots u.1 (c.in_ok-step-in-Stays.ensures.slots ∙ ap (drop 1) u.1)
+
+pub returns-in_ok-step-in-Predefined-clause-leaves : goal.returns-in_ok-step-in-Predefined-clause-leaves
+returns-in_ok-step-in-Predefined-clause-leaves c =
+    let u = next_predefined c.args.names.now c.args.self.now.sets c.args.macros.now (text_of c.args.names.now c.args.self.now.file) [] c.args.self.now.slots.items c.in-Predefined.h c.in-Predefined.p (c.in-Predefined.ensures.means (text_of c.args.names.now c.args.self.now.file) [] (λ _. refl)) in
+    leaves_front c.args.names.now c.predefined.new.names c.args.self.now.sets c.args.self.now.slots.items c.predefined.new.self.slots.items [] u.0 (slot.Token c.in-Predefined.h) c.in_ok-step-in-Predefined.ensures.given.grows c.requires.machine.slots u.1 (c.in_ok-step-in-Predefined.ensures.slots ∙ ap (drop 1) u.1)
+
+pub returns-in_ok-step-in-Object-clause-leaves : goal.returns-in_ok-step-in-Object-clause-leaves
+returns-in_ok-step-in-Object-clause-leaves c =
+    let u = next_object c.args.names.now c.args.self.now.sets c.args.macros.now (text_of c.args.names.now c.args.self.now.file) [] c.args.self.now.slots.items c.in-Object.h c.in-Object.m (c.in-Object.ensures.means (text_of c.args.names.now c.args.self.now.file) [] (λ _. refl)) in
+    let w = put_from c.args.names.now c.object.new.names c.args.self.now c.object.new.self _ (drop 1 c.args.self.now.slots.items) u.0.0 (ap (drop 1) u.0.1) c.in_ok-step-in-Object.ensures.put in
+    leaves_front c.args.names.now c.object.new.names c.args.self.now.sets c.args.self.now.slots.items c.object.new.self.slots.items (tokens w.list) u.0.0 (slot.Token c.in-Object.h) w.names_grow c.requires.machine.slots u.0.1 w.slots
+
+pub returns-in_ok-step-in-ArgumentEnd-clause-leaves : goal.returns-in_ok-step-in-ArgumentEnd-clause-leaves
+returns-in_ok-step-in-ArgumentEnd-clause-leaves c =
+    let u = next_end c.args.names.now c.args.self.now.sets c.args.macros.now (text_of c.args.names.now c.args.self.now.file) [] c.args.self.now.slots.items (c.in-ArgumentEnd.ensures.means (text_of c.args.names.now c.args.self.now.file) [] (λ _. refl)) in
+    leaves_ended c.args.names.now c.end_argument.new.names c.args.macros.now c.args.self.now c.end_argument.new.self u.0 c.in_ok-step-in-ArgumentEnd.step c.requires.machine.slots u.1 (c.in_ok-step-in-ArgumentEnd.ensures.ended u.0 u.1)
+
+pub returns-in_ok-enter-in-Call-clause-leaves : goal.returns-in_ok-enter-in-Call-clause-leaves
+returns-in_ok-enter-in-Call-clause-leaves c =
+    let u = next_call c.args.names.now c.args.self.now.sets c.args.macros.now (text_of c.args.names.now c.args.self.now.file) [] c.args.self.now.slots.items c.in-Call.h c.in-Call.m c.in-Call.count c.in-Call.close (c.in-Call.ensures.means (text_of c.args.names.now c.args.self.now.file) [] (λ _. refl)) in
+    let i = c.in_ok-enter-in-Call.ensures.entered (slot.Token c.in-Call.h) (slot.Token u.0.opens) u.0.inside u.0.closes u.0.rest u.0.params u.0.slots_are u.0.place u.0.macro_params u.0.counts in
+    leaves_entered c.args.names.now c.args.self.now c.enter.new.self c.in-Call.h c.in-Call.m.now [] c.in-Call.count c.in-Call.close _ u.0 i
