@@ -3,6 +3,8 @@
 
 mod laws;
 mod places;
+#[cfg(test)]
+mod tests;
 mod text_facts;
 
 pub use laws::{a_text_tells_its_own_places, a_text_tells_the_places, places_are_one};

@@ -45,7 +45,7 @@ fn place_of(fact: &Fact, key: &Key) -> Option<Place>
     ensures { result ≡ spec.place_of key.now fact.now }
 {
     match fact {
-        Fact::Denotes(place, known) => { if known == key { Some(*place) } else { None } }
+        Fact::Denotes(place, known) if known == key => Some(*place),
         _ => None,
     }
 }
