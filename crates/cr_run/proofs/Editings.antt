@@ -20,8 +20,8 @@ use Rattle.cr_run.specs.Report.{contents, file_lines, changed_lines, all_changed
 use Rattle.cr_run.specs.Written.{changed_paths, fault_text}
 use Rattle.cr_run.specs.Writing.{writes_from, with_file, written}
 use Rattle.cr_run.specs.Seen.{edit_of_code, edited_lines, all_edited_lines}
-use Rattle.cr_run.specs.Held.{Wanted, key_at, IsSurveyed, AreSurveyed}
-use Rattle.cr_run.specs.Editing.{edit_of_entry, has_places, edits_of}
+use Rattle.cr_run.specs.Held.{Wanted, key_at, StandsAt, AreSurveyed}
+use Rattle.cr_run.specs.Editing.{offsets_of, edit_of_entry, has_places, edits_of, AllPlaced}
 use Rattle.cr_run.specs.Planning.{Apart, AreEdited}
 use Rattle.cr_run.specs.declared.survey.Surveyed.{Surveyed}
 use Rattle.cr_run.specs.declared.edits.FileEdit.{FileEdit as CodeEdit}
@@ -143,33 +143,33 @@ renamed_in r files i e bytes all h there =
     ap (λ os. option_map (substituted os (length r.old) r.new) (files e.path)) (offsets_there r.edits i e all h) ∙ ap (option_map (substituted e.offsets (length r.old) r.new)) there
 
 -- the code's edits are those of the rename
-module _ (meaning : Meaning) (files : Files) (goal : Goal) (wanted : Wanted) (key : Key) (source : wanted.source ≡ goal.source) (sought : wanted.key ≡ Some key) (old new : List ℕ) where
-  places_are : (p : List ℕ) (s : Surveyed) → IsSurveyed meaning wanted p (files p) s → s.places ≡ places_at meaning files goal.source key p
+module _ (meaning : Meaning) (files : Files) (goal : Goal) (wanted : Wanted) (key : Key) (source : wanted.source ≡ goal.source) (sought : wanted.key ≡ Some key) (lists : List (List ℕ)) (old new : List ℕ) where
+  places_are : (p : List ℕ) (s : Surveyed) → StandsAt meaning wanted files p s (offsets_of lists s) → offsets_of lists s ≡ places_at meaning files goal.source key p
   places_are p s h =
-      h.places ∙ ap (λ k. places_in_file meaning (key_at wanted p k) (files p)) sought ∙ ap (λ w. places_in_file meaning (key_in w key p) (files p)) source
+      h ∙ ap (λ k. places_in_file meaning (key_at wanted p k) (files p)) sought ∙ ap (λ w. places_in_file meaning (key_in w key p) (files p)) source
 
-  pub edits_are : (es : List (List ℕ × Surveyed)) → AreSurveyed meaning wanted files es → map edit_of_code (edits_of old new es) ≡ filter has_offsets (map (edit_at meaning files goal key) (keys_of es))
+  pub edits_are : (es : List (List ℕ × Surveyed)) → AllPlaced (StandsAt meaning wanted files) lists es → map edit_of_code (edits_of lists old new es) ≡ filter has_offsets (map (edit_at meaning files goal key) (keys_of es))
   edits_are [] all = refl
   edits_are (e ∷ es) all =
-      by (has_places e) refl (edits_are es all.1)
-      ∙ ap (λ ps. if has_offsets (record { path = e.0; offsets = ps }) then record { path = e.0; offsets = ps } ∷ filter has_offsets (map (edit_at meaning files goal key) (keys_of es)) else filter has_offsets (map (edit_at meaning files goal key) (keys_of es))) (places_are e.0 e.1 all.0)
+      by (has_places lists e) refl (edits_are es all.2)
+      ∙ ap (λ ps. if has_offsets (record { path = e.0; offsets = ps }) then record { path = e.0; offsets = ps } ∷ filter has_offsets (map (edit_at meaning files goal key) (keys_of es)) else filter has_offsets (map (edit_at meaning files goal key) (keys_of es))) (places_are e.0 e.1 all.1)
     where
-      by : (b : Bool) → has_places e ≡ b → map edit_of_code (edits_of old new es) ≡ filter has_offsets (map (edit_at meaning files goal key) (keys_of es))
-          → map edit_of_code (if b then edit_of_entry old new e ∷ edits_of old new es else edits_of old new es)
-          ≡ (if has_places e then record { path = e.0; offsets = e.1.places } ∷ filter has_offsets (map (edit_at meaning files goal key) (keys_of es)) else filter has_offsets (map (edit_at meaning files goal key) (keys_of es)))
-      by true h more = ap (λ l. record { path = e.0; offsets = e.1.places } ∷ l) more ∙ sym (ap (λ b. if b then record { path = e.0; offsets = e.1.places } ∷ filter has_offsets (map (edit_at meaning files goal key) (keys_of es)) else filter has_offsets (map (edit_at meaning files goal key) (keys_of es))) h)
-      by false h more = more ∙ sym (ap (λ b. if b then record { path = e.0; offsets = e.1.places } ∷ filter has_offsets (map (edit_at meaning files goal key) (keys_of es)) else filter has_offsets (map (edit_at meaning files goal key) (keys_of es))) h)
+      by : (b : Bool) → has_places lists e ≡ b → map edit_of_code (edits_of lists old new es) ≡ filter has_offsets (map (edit_at meaning files goal key) (keys_of es))
+          → map edit_of_code (if b then edit_of_entry lists old new e ∷ edits_of lists old new es else edits_of lists old new es)
+          ≡ (if has_places lists e then record { path = e.0; offsets = offsets_of lists e.1 } ∷ filter has_offsets (map (edit_at meaning files goal key) (keys_of es)) else filter has_offsets (map (edit_at meaning files goal key) (keys_of es)))
+      by true h more = ap (λ l. record { path = e.0; offsets = offsets_of lists e.1 } ∷ l) more ∙ sym (ap (λ b. if b then record { path = e.0; offsets = offsets_of lists e.1 } ∷ filter has_offsets (map (edit_at meaning files goal key) (keys_of es)) else filter has_offsets (map (edit_at meaning files goal key) (keys_of es))) h)
+      by false h more = more ∙ sym (ap (λ b. if b then record { path = e.0; offsets = offsets_of lists e.1 } ∷ filter has_offsets (map (edit_at meaning files goal key) (keys_of es)) else filter has_offsets (map (edit_at meaning files goal key) (keys_of es))) h)
 
-  pub edited_from : (es : List (List ℕ × Surveyed)) (i : ℕ) (e : CodeEdit) → AreSurveyed meaning wanted files es → slice_get (edits_of old new es) i ≡ Some e → (bytes : List ℕ) × (files e.path ≡ Some bytes) × (e.edited ≡ substituted e.offsets (length old) new bytes)
-  edited_from [] i e all h = let no : None ≡ Some e = h in let bad : ⊥ = cc in absurd bad
-  edited_from (x ∷ es) i e all h = by (has_places x) refl i h (λ j. edited_from es j e all.1)
+  pub edited_from : (es : List (List ℕ × Surveyed)) (i : ℕ) (e : CodeEdit) → AreSurveyed meaning wanted files es → AllPlaced (StandsAt meaning wanted files) lists es → slice_get (edits_of lists old new es) i ≡ Some e → (bytes : List ℕ) × (files e.path ≡ Some bytes) × (e.edited ≡ substituted e.offsets (length old) new bytes)
+  edited_from [] i e all placed h = let no : None ≡ Some e = h in let bad : ⊥ = cc in absurd bad
+  edited_from (x ∷ es) i e all placed h = by (has_places lists x) refl i h (λ j. edited_from es j e all.1 placed.2)
     where
-      by : (b : Bool) → has_places x ≡ b → (i : ℕ) → slice_get (if b then edit_of_entry old new x ∷ edits_of old new es else edits_of old new es) i ≡ Some e
-          → ((j : ℕ) → slice_get (edits_of old new es) j ≡ Some e → (bytes : List ℕ) × (files e.path ≡ Some bytes) × (e.edited ≡ substituted e.offsets (length old) new bytes)) → (bytes : List ℕ) × (files e.path ≡ Some bytes) × (e.edited ≡ substituted e.offsets (length old) new bytes)
+      by : (b : Bool) → has_places lists x ≡ b → (i : ℕ) → slice_get (if b then edit_of_entry lists old new x ∷ edits_of lists old new es else edits_of lists old new es) i ≡ Some e
+          → ((j : ℕ) → slice_get (edits_of lists old new es) j ≡ Some e → (bytes : List ℕ) × (files e.path ≡ Some bytes) × (e.edited ≡ substituted e.offsets (length old) new bytes)) → (bytes : List ℕ) × (files e.path ≡ Some bytes) × (e.edited ≡ substituted e.offsets (length old) new bytes)
       by true t zero g more =
-          let same : edit_of_entry old new x ≡ e = cc in
-          let some : 0 < length x.1.places = grind (arith, nat_tests) in
-          subst (λ (z : CodeEdit). (bytes : List ℕ) × (files z.path ≡ Some bytes) × (z.edited ≡ substituted z.offsets (length old) new bytes)) same (x.1.bytes, all.0.bytes some, refl)
+          let same : edit_of_entry lists old new x ≡ e = cc in
+          let some : 0 < length (offsets_of lists x.1) = grind (arith, nat_tests) in
+          subst (λ (z : CodeEdit). (bytes : List ℕ) × (files z.path ≡ Some bytes) × (z.edited ≡ substituted z.offsets (length old) new bytes)) same (x.1.bytes, all.0.bytes (subst (λ ps. 0 < length ps) placed.1 some), refl)
       by true t (suc j) g more = more j g
       by false t j g more = more j g
 

@@ -4,6 +4,8 @@ pub mod Writes
 pub mod Surveys
 pub mod Causes
 pub mod Lookups
+pub mod Tables
+pub mod Findings
 pub mod Finding
 pub mod Meanings
 pub mod Meeting

@@ -1,5 +1,5 @@
 -- What the code looks up among the files that it has read.
-use Rattle.std.proofs.Common.{◌≡◌, ℕ, Bool, true, false, ◌||◌, List, [], ◌∷◌, length, Some, None, slice_get, refl, sym, ap, ◌∙◌, subst, zero, suc}
+use Rattle.std.proofs.Common.{◌≡◌, ℕ, Bool, true, false, ◌||◌, List, [], ◌∷◌, Some, None, slice_get, refl, sym, ap, ◌∙◌, subst, zero, suc}
 use Rattle.std.specs.Prelude.{bytes_eq, if◌then◌else◌, is_some}
 use Rattle.std.specs.List.{list_any}
 use Rattle.std.specs.Ordering.{nat_cmp, match_ordering, is_eq}
@@ -13,8 +13,6 @@ use Rattle.cr_base.specs.declared.unit.Unit.{Unit as TranslationUnit}
 use Rattle.cr_world.specs.Outside.{Files}
 use Rattle.cr_run.specs.Units.{mains}
 use Rattle.cr_run.specs.Survey.{Meaning, files_so_far}
-use Rattle.cr_base.specs.Substitution.{Rise}
-use Rattle.cr_run.specs.Editing.{AllRise}
 use Rattle.cr_run.specs.Held.{Wanted, IsSurveyed, AreSurveyed}
 use Rattle.cr_run.specs.declared.survey.Surveyed.{Surveyed}
 use Rattle.cr_run.proofs.Surveys.{eq_self, order_any}
@@ -85,13 +83,3 @@ apart_source source units p h = by (bytes_eq source p) refl
         let other : bytes_eq p source ≡ true = (bytes_eq-Decides p source).1 (sym same) in
         sym other ∙ first (bytes_eq p source) (list_any (bytes_eq p) (mains units)) (sym (order_any (bytes_eq p) (source ∷ mains units)) ∙ h)
     by false e = refl
-
--- the places of the files rise, with those of one more
-pub rises_more : (old : List ℕ) (p : List ℕ) (v : Surveyed) (es : List (List ℕ × Surveyed)) → Rise 0 v.places (length old) (length v.bytes) → AllRise old es → AllRise old (insert_entry (slice_cmp nat_cmp) es p v)
-rises_more old p v [] one all = (one, tt)
-rises_more old p v (e ∷ es) one all = by (slice_cmp nat_cmp p e.0) (rises_more old p v es one all.1)
-  where
-    by : (o : Ordering) → AllRise old (insert_entry (slice_cmp nat_cmp) es p v) → AllRise old (match_ordering o ((p, v) ∷ e ∷ es) ((e.0, v) ∷ es) (e ∷ insert_entry (slice_cmp nat_cmp) es p v))
-    by Less more = (one, all)
-    by Equal more = (one, all.1)
-    by Greater more = (all.0, more)

@@ -1,6 +1,7 @@
 -- What a text means is one.
 use Rattle.std.proofs.Common.{◌≡◌, ℕ, ◌<◌, List, [], ◌∷◌, length, not, ◌&&◌, Option, Some, None, Result, inl, false, refl, sym, ap, ◌∙◌, subst, arith}
-use Rattle.std.specs.Prelude.{Ok, Err, IfOk, is_some, bytes_eq, if◌then◌else◌}
+use Rattle.std.specs.Prelude.{Ok, Err, IfOk, OnOk, is_some, bytes_eq, ◌==◌, if◌then◌else◌}
+use Rattle.std.proofs.lemmas.Bool.Decides.{nat_tests}
 use Rattle.cr_lex.specs.Lexing.{Token, Lexed, lexed}
 use Rattle.cr_small.specs.Keys.{Key, external, at}
 use Rattle.cr_small.specs.Laws.{IsNameOf, PlacesRise}
@@ -9,8 +10,8 @@ use Rattle.cr_small.specs.Renaming.{has_text}
 use Rattle.cr_small.specs.SmallForm.{IsSmallForm, Resolves, DenotesOne}
 use Rattle.cr_small.specs.declared.binder.Denotation.{Denotation}
 use Rattle.cr_run.specs.Survey.{Meaning, IsMeaning, places_in_text, unspellable_in_text}
-use Rattle.cr_run.specs.Held.{Wanted, key_at, key_elsewhere, IsNamed, IsSurveyed}
-use Rattle.cr_run.specs.declared.survey.Surveyed.{Surveyed}
+use Rattle.cr_run.specs.Held.{Wanted, key_at, key_in_file, IsNamed, IsFound}
+use Rattle.cr_run.specs.declared.survey.Finding.{Finding}
 
 -- two answers for the same tokens are one
 pub means : DenotesOne → (meaning : Meaning) → IsMeaning meaning → (text : Lexed) (found : Option (List (Option Denotation))) → Resolves text found → meaning text ≡ found
@@ -26,6 +27,10 @@ pub if_ok_more : {V E : Type 0} (r : Result V E) (P Q : V → Type 0) → ((v : 
 if_ok_more (Ok v) P Q more h = more v h
 if_ok_more (Err e) P Q more h = tt
 
+pub on_ok_more : {V E : Type 0} (r : Result V E) (P Q : Type 0) → (P → Q) → OnOk r P → OnOk r Q
+on_ok_more (Ok v) P Q more h = more h
+on_ok_more (Err e) P Q more h = tt
+
 no_places : (key : Option Key) (tokens : List Token) → places_in_text key tokens None ≡ []
 no_places None tokens = refl
 no_places (Some key) tokens = refl
@@ -34,28 +39,49 @@ no_unspellable : (bytes new : List ℕ) (key : Option Key) (tokens : List Token)
 no_unspellable bytes new None tokens = refl
 no_unspellable bytes new (Some key) tokens = refl
 
-module _ (one : DenotesOne) (meaning : Meaning) (is : IsMeaning meaning) (wanted : Wanted) (path bytes : List ℕ) where
+module _ (one : DenotesOne) (meaning : Meaning) (is : IsMeaning meaning) (wanted : Wanted) (path bytes : List ℕ) (number : ℕ) where
   -- a text that isn't of the small form is found as an absent file is
-  pub unclear_text : (s : Surveyed) → Resolves (lexed bytes) None → ((meaning : Meaning) (wanted : Wanted) (path : List ℕ) → IsSurveyed meaning wanted path None s) → IsSurveyed meaning wanted path (Some bytes) s
-  unclear_text s none h =
+  pub unclear_text : (f : Finding) → Resolves (lexed bytes) None → ((meaning : Meaning) (wanted : Wanted) (path : List ℕ) → IsFound meaning wanted path None number f) → IsFound meaning wanted path (Some bytes) number f
+  unclear_text f none h =
       let found = h meaning wanted path in
       let e = means one meaning is (lexed bytes) None none in
-      record {
-        clear = found.clear ∙ sym (ap (λ (o : Option (List (Option Denotation))). is_some o && not (has_text wanted.new (lexed bytes).tokens)) e);
-        places = found.places ∙ sym (ap (places_in_text (key_at wanted path wanted.key) (lexed bytes).tokens) e ∙ no_places (key_at wanted path wanted.key) (lexed bytes).tokens);
-        unspellable = found.unspellable ∙ sym (ap (unspellable_in_text bytes wanted.new (key_at wanted path wanted.key) (lexed bytes).tokens) e ∙ no_unspellable bytes wanted.new (key_at wanted path wanted.key) (lexed bytes).tokens);
-        bytes = λ some. let none : length s.places ≡ 0 = ap length found.places in absurd (omega (arith, some, none));
-      }
+      let nowhere : places_in_text (key_at wanted path wanted.key) (lexed bytes).tokens (meaning (lexed bytes)) ≡ [] =
+      ap (places_in_text (key_at wanted path wanted.key) (lexed bytes).tokens) e ∙ no_places (key_at wanted path wanted.key) (lexed bytes).tokens in (
+        record {
+          clear = found.0.clear ∙ sym (ap (λ (o : Option (List (Option Denotation))). is_some o && not (has_text wanted.new (lexed bytes).tokens)) e);
+          unspellable = found.0.unspellable ∙ sym (ap (unspellable_in_text bytes wanted.new (key_at wanted path wanted.key) (lexed bytes).tokens) e ∙ no_unspellable bytes wanted.new (key_at wanted path wanted.key) (lexed bytes).tokens);
+          bytes = λ some. let none : length (places_in_text (key_at wanted path wanted.key) (lexed bytes).tokens (meaning (lexed bytes))) ≡ 0 = ap length nowhere in absurd (omega (arith, some, none));
+        },
+        record {
+          numbered = found.1.numbered;
+          places = found.1.places;
+          told = found.1.told;
+          holds = found.1.holds ∙ sym nowhere;
+          own = found.1.own;
+        },
+      )
 
-pub key_there : (wanted : Wanted) (path : List ℕ) (key : Option Key) → bytes_eq wanted.source path ≡ false → key_at wanted path key ≡ key_elsewhere key
-key_there wanted path None apart = refl
-key_there wanted path (Some (external name)) apart = refl
-key_there wanted path (Some (at offset)) apart = ap (λ b. if b then Some (at offset) else None) apart
+pub key_there : (wanted : Wanted) (path : List ℕ) (number : ℕ) (key : Option Key) → bytes_eq wanted.source path ≡ false → 0 < number → key_at wanted path key ≡ key_in_file number key
+key_there wanted path number None apart later = refl
+key_there wanted path number (Some (external name)) apart later = refl
+key_there wanted path number (Some (at offset)) apart later =
+    let other : (number == 0) ≡ false = grind (arith, nat_tests) in
+    ap (λ b. if b then Some (at offset) else None) (apart ∙ sym other)
 
-pub named_there : (old : List ℕ) (key : Option Key) (k : Key) (tokens : List Token) (denotes : List (Option Denotation)) → IsNamed old key → key_elsewhere key ≡ Some k → IsNameOf old k tokens denotes
-named_there old None k tokens denotes named h = let no : None ≡ Some k = h in let bad : ⊥ = cc in absurd bad
-named_there old (Some (external name)) k tokens denotes named h = let same : external name ≡ k = cc in inl (sym same ∙ ap external (named name refl))
-named_there old (Some (at offset)) k tokens denotes named h = let no : None ≡ Some k = h in let bad : ⊥ = cc in absurd bad
+-- in the source an entity has its key
+pub key_of_source : (key : Option Key) → key_in_file 0 key ≡ key
+key_of_source None = refl
+key_of_source (Some (external name)) = refl
+key_of_source (Some (at offset)) = refl
+
+pub named_there : (old : List ℕ) (number : ℕ) (key : Option Key) (k : Key) (tokens : List Token) (denotes : List (Option Denotation)) → 0 < number → IsNamed old key → key_in_file number key ≡ Some k → IsNameOf old k tokens denotes
+named_there old number None k tokens denotes later named h = let no : None ≡ Some k = h in let bad : ⊥ = cc in absurd bad
+named_there old number (Some (external name)) k tokens denotes later named h = let same : external name ≡ k = cc in inl (sym same ∙ ap external (named name refl))
+named_there old number (Some (at offset)) k tokens denotes later named h =
+    let other : (number == 0) ≡ false = grind (arith, nat_tests) in
+    let no : None ≡ Some k = sym (ap (λ b. if b then Some (at offset) else None) other) ∙ h in
+    let bad : ⊥ = cc in
+    absurd bad
 
 pub rise_kept : (places bytes kept : List ℕ) (len : ℕ) → (0 < length places → kept ≡ bytes) → Rise 0 places len (length bytes) → Rise 0 places len (length kept)
 rise_kept [] bytes kept len same h = omega arith

@@ -16,8 +16,8 @@ use Rattle.cr_run.specs.Report.{head_text, edit_lines, skip_line, report_of}
 use Rattle.cr_run.specs.Written.{changed_paths}
 use Rattle.cr_run.specs.Writing.{AreWrites}
 use Rattle.cr_run.specs.Seen.{edit_of_code, skip_of_code, all_edited_lines}
-use Rattle.cr_run.specs.Held.{Holds, wanted_for}
-use Rattle.cr_run.specs.Editing.{edits_of}
+use Rattle.cr_run.specs.Held.{Holds, StandsAt, wanted_for}
+use Rattle.cr_run.specs.Editing.{edits_of, AllPlaced}
 use Rattle.cr_run.specs.Planning.{Apart, AreEdited, AreParted, IsPlan, writes_if}
 use Rattle.cr_run.specs.declared.edits.FileEdit.{FileEdit as CodeEdit}
 use Rattle.cr_run.specs.declared.plan.Plan.{Plan}
@@ -40,21 +40,22 @@ pub renames_apart : (meaning : Meaning) (files : Files) (goal : Goal) (es : List
 renames_apart meaning files goal es target = edits_apart (edit_at meaning files goal target.key) (λ p. refl) (files_so_far goal.source (units_in es)) (order_apart (goal.source ∷ mains (units_in es)))
 
 module _ (meaning : Meaning) (files : Files) (goal : Goal) (es : List Entry) (target : Target) (entries : Entries) (survey : Survey)
-    (parted : AreParted es entries) (h : Holds meaning files (wanted_for goal (Some target)) entries.units.items survey) where
+    (parted : AreParted es entries) (h : Holds meaning files (wanted_for goal (Some target)) entries.units.items survey)
+    (lists : List (List ℕ)) (placed : AllPlaced (StandsAt meaning (wanted_for goal (Some target)) files) lists survey.files.entries) where
   abbrev r : Rename
   r = rename_of meaning files goal es target
 
   abbrev edits : List CodeEdit
-  edits = edits_of target.name goal.new survey.files.entries
+  edits = edits_of lists target.name goal.new survey.files.entries
 
   are : map edit_of_code edits ≡ r.edits
   are =
-      edits_are meaning files goal (wanted_for goal (Some target)) target.key refl refl target.name goal.new survey.files.entries h.each
+      edits_are meaning files goal (wanted_for goal (Some target)) target.key refl refl lists target.name goal.new survey.files.entries placed
       ∙ ap (λ ks. filter has_offsets (map (edit_at meaning files goal target.key) ks)) (h.paths ∙ ap (files_so_far goal.source) parted.0)
 
   each : AreEdited files r edits
   each i e at =
-      let f = edited_from meaning files goal (wanted_for goal (Some target)) target.key refl refl target.name goal.new survey.files.entries i e h.each at in
+      let f = edited_from meaning files goal (wanted_for goal (Some target)) target.key refl refl lists target.name goal.new survey.files.entries i e h.each placed at in
       renamed_in r files i (edit_of_code e) f.0 (renames_apart meaning files goal es target) (ap (λ l. slice_get l i) (sym are) ∙ slice_get-map edit_of_code edits i ∙ ap (option_map edit_of_code) at) f.1
       ∙ ap (λ x. Some x) (sym f.2)
 

@@ -1,7 +1,8 @@
 -- What the code holds of the files that it has read. No contract of a public call cites it.
-use Rattle.std.specs.Prelude.{ℕ, ◌+◌, ◌≡◌, ◌⊎◌, ◌<◌, ◌≤◌, true, false, List, [], ◌∷◌, length, bytes_eq, Option, Some, None, Result, Ok, Err}
+use Rattle.std.specs.Prelude.{ℕ, ◌+◌, ◌≡◌, ◌⊎◌, ◌<◌, ◌≤◌, true, false, List, [], ◌∷◌, length, bytes_eq, ◌==◌, if◌then◌else◌, Option, Some, None, Result, Ok, Err}
 use Rattle.std.specs.Option.{option_map, option_or}
 use Rattle.std.specs.List.{list_any}
+use Rattle.std.specs.FinSet.{union}
 use Rattle.std.specs.BTreeMap.{keys, insert_entry}
 use Rattle.std.specs.Ordering.{nat_cmp}
 use Rattle.std.specs.Cmp.Lexicographic.{slice_cmp}
@@ -14,7 +15,9 @@ use Rattle.cr_run.specs.Refusals.{IfDecided, refused_of}
 use Rattle.cr_small.specs.Renaming.{Target}
 use Rattle.cr_run.specs.Goal.{Goal, Refused}
 use Rattle.cr_run.specs.declared.survey.Sought.{Sought}
+use Rattle.cr_run.specs.Table.{IsTable, IsFinding, RisesIn}
 use Rattle.cr_run.specs.declared.survey.Surveyed.{Surveyed}
+use Rattle.cr_run.specs.declared.survey.Finding.{Finding}
 use Rattle.cr_run.specs.declared.survey.Survey.{Survey}
 use Rattle.cr_run.specs.declared.refusal.Refusal.{Refusal}
 use Rattle.cr_run.specs.declared.refusal.Refusal.TheVariants as refusal
@@ -32,11 +35,11 @@ abbrev pub key_at : Wanted → List ℕ → Option Key → Option Key
 key_at wanted path None = None
 key_at wanted path (Some key) = key_in wanted.source key path
 
--- the key in any file but the source
-abbrev pub key_elsewhere : Option Key → Option Key
-key_elsewhere None = None
-key_elsewhere (Some (external name)) = Some (external name)
-key_elsewhere (Some (at offset)) = None
+-- the key in the file of a number: an entity without external linkage stands in the source alone, which has number 0
+abbrev pub key_in_file : ℕ → Option Key → Option Key
+key_in_file number None = None
+key_in_file number (Some (external name)) = Some (external name)
+key_in_file number (Some (at offset)) = if number == 0 then Some (at offset) else None
 
 -- a key of external linkage has this name
 abbrev pub IsNamed : List ℕ → Option Key → Type 0
@@ -45,20 +48,28 @@ IsNamed old key = (name : List ℕ) → key ≡ Some (external name) → name �
 -- a file as it was found
 pub record IsSurveyed (meaning : Meaning) (wanted : Wanted) (path : List ℕ) (found : Option (List ℕ)) (s : Surveyed) : Type 0 where
   pub clear : s.clear ≡ is_clear_file meaning wanted.new found
-  pub places : s.places ≡ places_in_file meaning (key_at wanted path wanted.key) found
   pub unspellable : s.unspellable ≡ unspellable_in_file meaning wanted.new (key_at wanted path wanted.key) found
-  pub bytes : 0 < length s.places → found ≡ Some s.bytes
+  pub bytes : 0 < length (places_in_file meaning (key_at wanted path wanted.key) found) → found ≡ Some s.bytes
+
+-- where an entity of the source stands in the file at a path
+abbrev pub StandsAt : Meaning → Wanted → Files → List ℕ → Surveyed → List ℕ → Type 0
+StandsAt meaning wanted files path s places = places ≡ places_in_file meaning (key_at wanted path wanted.key) (files path)
+
+-- the file of a number, as it was found, and the facts that it tells
+abbrev pub IsFound : Meaning → Wanted → List ℕ → Option (List ℕ) → ℕ → Finding → Type 0
+IsFound meaning wanted path found number f = IsSurveyed meaning wanted path found f.file × IsFinding (StandsAt meaning wanted (λ p. found)) wanted.key number path f
 
 abbrev pub AreSurveyed : Meaning → Wanted → Files → List (List ℕ × Surveyed) → Type 0
 AreSurveyed meaning wanted files [] = Unit {0}
 AreSurveyed meaning wanted files (e ∷ es) = IsSurveyed meaning wanted e.0 (files e.0) e.1 × AreSurveyed meaning wanted files es
 
--- the files that a run has come to, each as it was found, and none over a limit
+-- the files that a run has come to, each as it was found, none over a limit, and the facts that they tell
 pub record Holds (meaning : Meaning) (files : Files) (wanted : Wanted) (units : List TranslationUnit) (s : Survey) : Type 0 where
   pub paths : keys s.files ≡ files_so_far wanted.source units
   pub each : AreSurveyed meaning wanted files s.files.entries
   pub total : s.total ≡ total_size files (files_so_far wanted.source units)
   pub within : is_over files wanted.source units ≡ false
+  pub table : IsTable (StandsAt meaning wanted files) wanted.key s
 
 -- the refusal of the first of the files that has a place at which the new name can't be spelled
 abbrev pub refusal_of_entries : List (List ℕ × Surveyed) → Option Refused
@@ -80,15 +91,16 @@ IfLimit P (refusal.UnbuiltOption option) = ⊥
 IfLimit P (refusal.Unbuilt path) = ⊥
 
 -- the file at a path was put to the others, or they are over their limit together
-abbrev pub Adds : List ℕ → Surveyed → ℕ → Survey → Survey → Result (Unit {0}) Refusal → Type 0
-Adds path found size before now (Ok done) =
-    (now.files.entries ≡ insert_entry (slice_cmp nat_cmp) before.files.entries path found) × (now.total ≡ before.total + size) × (before.total + size ≤ 536870912)
-Adds path found size before now (Err r) = IfLimit (536870912 < before.total + size) r
+abbrev pub Adds : List ℕ → Finding → ℕ → ℕ → Survey → Survey → Result (Unit {0}) Refusal → Type 0
+Adds path found number size before now (Ok done) =
+    (now.files.entries ≡ insert_entry (slice_cmp nat_cmp) before.files.entries path found.file) × (now.total ≡ before.total + size) × (before.total + size ≤ 536870912)
+    × (now.last ≡ number) × (now.facts ≡ union before.facts found.facts)
+Adds path found number size before now (Err r) = IfLimit (536870912 < before.total + size) r
 
 -- the file at a path was put to the others, as it was found, or it is over a limit
 abbrev pub Added : Meaning → Wanted → List ℕ → Option (List ℕ) → Survey → Survey → Result (Unit {0}) Refusal → Type 0
 Added meaning wanted path file before now (Ok done) =
-    (found : Surveyed) × IsSurveyed meaning wanted path file found × Adds path found (size_of file) before now (Ok done)
+    (found : Finding) × IsFound meaning wanted path file (before.last + 1) found × Adds path found (before.last + 1) (size_of file) before now (Ok done)
     × (size_of file ≤ 16777216)
 Added meaning wanted path file before now (Err r) = IfLimit ((16777216 < size_of file) ⊎ (536870912 < before.total + size_of file)) r
 
@@ -114,6 +126,10 @@ Surveys meaning files wanted units s (Err r) = IfDecided (refusal_of_units meani
 abbrev pub SurveysTo : Meaning → Files → Wanted → List TranslationUnit → Result Survey Refusal → Type 0
 SurveysTo meaning files wanted units (Ok s) = Holds meaning files wanted units s × (refusal_of_units meaning files wanted.source wanted.new units ≡ None)
 SurveysTo meaning files wanted units (Err r) = IfDecided (refusal_of_units meaning files wanted.source wanted.new units ≡ Some (refused_of r)) r
+
+-- the facts tell the places of the entity that is sought, and these rise
+abbrev pub IsPlaced : Sought → Survey → Type 0
+IsPlaced sought s = IsTable (RisesIn sought.old.now) (option_map key_of_code sought.key) s
 
 -- what is sought for what stands at the offset of a goal
 abbrev pub wanted_for : Goal → Option Target → Wanted

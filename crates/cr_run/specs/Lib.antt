@@ -3,6 +3,7 @@ pub mod Goal
 pub mod Units
 pub mod Renames
 pub mod Survey
+pub mod Table
 pub mod Outcome
 pub mod Report
 pub mod Written

@@ -1,7 +1,7 @@
 //! The files that change, with the new name in the old one's place.
-ghost use Rattle.std.specs.Prelude.{◌≡◌, length, IfOk};
+ghost use Rattle.std.specs.Prelude.{◌≡◌, length, map, IfOk};
 ghost use Rattle.cr_base.specs.Substitution.{Rise, substituted};
-ghost use Rattle.cr_run.specs.Editing.{AllRise, edit_of_entry, edits_of};
+ghost use Rattle.cr_run.specs.Editing.{AllRise, edits_of};
 
 use crate::survey::{Survey, Surveyed};
 use cr_base::{List, OutOfMemory, PathText};
@@ -15,20 +15,23 @@ pub struct FileEdit {
     pub edited: List<u8>,
 }
 
-/// The files of a survey in which the old name stands, with the new name in its place.
+/// The files of a survey in which the old name stands, with the new name in its place. `places` has the places of
+/// each file by its number.
 pub fn edit_files(
     alloc: Global,
     survey: &Survey,
+    places: &[Vec<usize>],
     old: &[u8],
     new: &[u8],
 ) -> Result<Vec<FileEdit>, OutOfMemory>
-    requires { AllRise old.now survey.now.files.entries }
-    ensures { IfOk result (λ v. v.items ≡ edits_of old.now new.now survey.now.files.entries) }
+    requires { AllRise (map (λ v. v.items) places.now) old.now survey.now.files.entries }
+    ensures { IfOk result (λ v. v.items ≡ edits_of (map (λ v. v.items) places.now) old.now new.now survey.now.files.entries) }
 {
     let mut edits = Vec::new(alloc);
     for (path, found) in survey.files.iter() {
-        if !found.places.items().is_empty() {
-            edits.push(edit_file(alloc, path, found, old, new)?)?;
+        let offsets = places[found.number as usize].as_slice();
+        if !offsets.is_empty() {
+            edits.push(edit_file(alloc, path, offsets, found, old, new)?)?;
         }
     }
     Ok(edits)
@@ -37,14 +40,14 @@ pub fn edit_files(
 fn edit_file(
     alloc: Global,
     path: &PathText,
+    offsets: &[usize],
     found: &Surveyed,
     old: &[u8],
     new: &[u8],
 ) -> Result<FileEdit, OutOfMemory>
-    requires { Rise 0 found.now.places (length old.now) (length found.now.bytes) }
-    ensures { IfOk result (λ edit. edit ≡ edit_of_entry old.now new.now (path.now, found.now)) }
+    requires { Rise 0 offsets.now (length old.now) (length found.now.bytes) }
+    ensures { IfOk result (λ edit. edit ≡ record { path = path.now; offsets = offsets.now; edited = substituted offsets.now (length old.now) new.now found.now.bytes }) }
 {
-    let offsets = found.places.items();
     let edited = apply(alloc, found.bytes.items(), offsets, old.len(), new)?;
     Ok(FileEdit {
         path: path.copy(alloc)?,

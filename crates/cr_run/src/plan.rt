@@ -14,7 +14,7 @@ ghost use Rattle.cr_run.specs.Reading.{ReadsOnly, HasReadCause, MayRead, MayRead
 ghost use Rattle.cr_run.specs.Refusals.{Answers};
 ghost use Rattle.cr_run.specs.Seen.{goal_of_code, skip_of_code};
 ghost use Rattle.cr_run.specs.Held.{Wanted, Holds, SurveysTo, wanted_for};
-ghost use Rattle.cr_run.specs.Editing.{AllRise};
+ghost use Rattle.cr_run.specs.Table.{IsTable, RisesIn};
 ghost use Rattle.cr_run.specs.Writing.{AreWrites};
 ghost use Rattle.cr_run.specs.Planning.{IsPlan, Plans, AreParted, writes_if};
 
@@ -23,11 +23,12 @@ use crate::entries::read_entries;
 use crate::goal::{Goal, read_goal};
 use crate::refusal::Refusal;
 use crate::report::{Head, report};
-use crate::survey::{MAX_FILE, Sought, Survey, Surveyed};
+use crate::survey::{Finding, MAX_FILE, Sought, Survey};
 use crate::units::Entries;
 use crate::write::{Write, writes_of};
 use cr_base::{OutOfMemory, Unit};
 use cr_small::{EntityKey, SmallText, Target, a_target_names_its_key, denotations_are_one};
+use cr_small_facts::places_are_one;
 use cr_world::{ReadEnd, Tree};
 use std::alloc::Global;
 
@@ -112,7 +113,7 @@ fn plan_absent<'a, T: Tree>(
         key: None,
         new: goal.new,
     };
-    let found = Surveyed::unclear(alloc);
+    let found = Finding::unclear(alloc, 0);
     let mut survey = Survey::start(alloc, goal.source.copy(alloc)?, found, 0)?;
     survey.read_units(alloc, tree, &sought, &entries.units)?;
     Err(Refusal::NoSymbol)
@@ -210,7 +211,7 @@ fn survey_from<'a, T: Tree>(
     ensures surveyed { (meaning : Meaning) (files : Files) → IsMeaning meaning → T.files tree.old ≡ Some files → files goal.now.source ≡ Some bytes.now
         → meaning (lexed bytes.now) ≡ Some text.now.denotes
         → SurveysTo meaning files (wanted_for (goal_of_code goal.now) (option_map target_of_code target.now)) units.now result }
-    ensures rises { IfOk result (λ survey. (t : renaming.Target) → option_map target_of_code target.now ≡ Some t → AllRise t.name survey.files.entries) }
+    ensures placed { IfOk result (λ survey. (t : renaming.Target) → option_map target_of_code target.now ≡ Some t → IsTable (RisesIn t.name) (Some t.key) survey) }
     ensures cause { HasReadCause (λ path. Rose (T.reads tree.old path) (T.reads tree.new path) × IsMain units.now path) result }
 {
     a_target_names_its_key();
@@ -220,7 +221,7 @@ fn survey_from<'a, T: Tree>(
         key: key_of(target),
         new: goal.new,
     };
-    let found = Surveyed::of(alloc, &sought, sought.key, bytes, text)?;
+    let found = Finding::of(alloc, &sought, 0, bytes, text)?;
     let mut survey = Survey::start(alloc, goal.source.copy(alloc)?, found, bytes.len())?;
     survey.read_units(alloc, tree, &sought, units)?;
     Ok(survey)
@@ -295,13 +296,15 @@ fn planned(
     survey: &Survey,
     target: &Target,
 ) -> Result<Plan, OutOfMemory>
-    requires { AllRise target.now.name.now survey.now.files.entries }
+    requires { IsTable (RisesIn target.now.name.now) (Some (key_of_code target.now.key)) survey.now }
     ensures writes { IfOk result (λ plan. AreWrites plan.writes.items) }
     ensures plan { IfOk result (λ plan. (meaning : Meaning) (files : Files) (es : List EntryOf) → AreParted es entries.now
         → Holds meaning files (wanted_for (goal_of_code goal.now) (Some (target_of_code target.now))) entries.now.units.items survey.now
         → IsPlan files (spec.rename_of meaning files (goal_of_code goal.now) es (target_of_code target.now)) plan) }
 {
-    let edits = edit_files(alloc, survey, target.name, goal.new)?;
+    places_are_one();
+    let places = survey.places(alloc, target.key)?;
+    let edits = edit_files(alloc, survey, &places, target.name, goal.new)?;
     let head = Head {
         old: target.name,
         new: goal.new,

@@ -1,26 +1,31 @@
 //! The files of the translation units, read batch by batch.
-ghost use Rattle.std.specs.Prelude.{◌≡◌, ◌≤◌, ◌<◌, ◌++◌, ◌∷◌, ◌*◌, ◌+◌, [], List, ℕ, Some, map, take, length, IfOk, OnOk, true, false, bytes_eq};
+ghost use Rattle.std.specs.Prelude.{◌≡◌, ◌≤◌, ◌<◌, ◌++◌, ◌∷◌, ◌*◌, ◌+◌, [], List, ℕ, Option, Some, None, map, take, length, slice_get, IfOk, OnOk, true, false, bytes_eq};
 ghost use Rattle.std.specs.Option.{option_map};
 ghost use Rattle.cr_base.specs.declared.unit.Unit.{Unit as UnitOf};
 ghost use Rattle.cr_world.specs.Outside.{Files, Rose};
 ghost use Rattle.cr_small.specs.Seen.{tokens_of, key_of_code};
-ghost use Rattle.cr_base.specs.Substitution.{Rise};
 ghost use Rattle.cr_lex.specs.Lexing.{lexed};
 ghost use Rattle.cr_small.specs.Keys.{Key};
 ghost use Rattle.cr_small.specs.Laws.{IsNameOf};
 ghost use Rattle.cr_small.specs.Texts.{IsTextOf};
-ghost use Rattle.cr_run.specs.Editing.{AllRise};
+ghost use Rattle.cr_small_facts.specs.TextFacts as fact_key;
+ghost use Rattle.cr_small_facts.specs.Places.{ArePlaces};
+ghost use Rattle.cr_run.specs.Table.{IsTable, IsFinding, RisesIn};
 ghost use Rattle.cr_run.specs.Survey as spec;
 ghost use Rattle.cr_run.specs.Survey.{Meaning, IsMeaning};
 ghost use Rattle.cr_run.specs.Reading.{ReadsOnly, HasReadCause};
 ghost use Rattle.cr_run.specs.Units.{mains, IsMain};
 ghost use Rattle.std.specs.List.{list_any};
-ghost use Rattle.cr_run.specs.Held.{Wanted, wanted_of, key_at, key_elsewhere, IsNamed, IsSurveyed, Holds, Adds, Added, AllMet, Met, Settled, Surveys, refusal_of_entries};
+ghost use Rattle.cr_run.specs.Held.{Wanted, wanted_of, key_at, key_in_file, IsNamed, IsPlaced, IsFound, Holds, Adds, Added, AllMet, Met, Settled, Surveys, refusal_of_entries};
 
 use crate::number::push_number;
 use crate::refusal::Refusal;
-use cr_base::{List, OutOfMemory, PathText, Text, Unit};
-use cr_small::{EntityKey, SmallText, denotations_are_one, places_rise};
+use cr_base::{List, OutOfMemory, PathNo, PathText, Text, Unit};
+use cr_facts::{FactSet, facts_are_ordered};
+use cr_small::{EntityKey, SmallText, denotations_are_one, entities_have_one_name, places_rise};
+use cr_small_facts::{
+    a_text_tells_its_own_places, a_text_tells_the_places, facts_of, key_over, places_by_file,
+};
 use cr_world::{ReadEnd, Tree};
 use std::alloc::Global;
 use std::collections::BTreeMap;
@@ -41,94 +46,110 @@ pub struct Sought<'a, 'b> {
     pub new: &'a [u8],
 }
 
-/// What a file is found to be: whether it is of the small form without the new name, where the entity stands in it,
-/// the first of these places at which the new name can't be spelled, and its bytes where it stands there.
+/// What a file is found to be: its number, whether it is of the small form without the new name, the first place of
+/// the entity at which the new name can't be spelled, and its bytes where the old name stands in it.
 #[derive(Drop)]
 pub struct Surveyed {
+    pub number: u32,
     pub clear: bool,
-    pub places: List<usize>,
     pub unspellable: Option<usize>,
     pub bytes: List<u8>,
 }
 
+/// What a file is found to be, and the facts that it tells.
+#[derive(Drop)]
+pub struct Finding {
+    pub file: Surveyed,
+    pub facts: FactSet,
+}
+
 impl<'a, 'b> Sought<'a, 'b> {
-    // The key in any other file: an entity without external linkage stands in the source alone.
-    fn key_elsewhere(&self) -> Option<EntityKey<'b>>
-        ensures { option_map key_of_code result ≡ key_elsewhere (option_map key_of_code self.now.key) }
+    // The key in the file of a number: an entity without external linkage stands in the source alone, which has
+    // number 0.
+    fn key_in_file(&self, number: u32) -> Option<EntityKey<'b>>
+        ensures { option_map key_of_code result ≡ key_in_file number (option_map key_of_code self.now.key) }
     {
         match self.key? {
             EntityKey::External(name) => Some(EntityKey::External(name)),
-            EntityKey::At(_) => None,
+            EntityKey::At(offset) => {
+                if number == 0 {
+                    Some(EntityKey::At(offset))
+                } else {
+                    None
+                }
+            }
         }
     }
 }
 
-impl Surveyed {
+impl Finding {
     /// A file that is absent or not of the small form.
-    pub fn unclear(alloc: Global) -> Surveyed
-        ensures surveyed { (meaning : Meaning) (wanted : Wanted) (path : List ℕ) → IsSurveyed meaning wanted path None result }
-        ensures rises { (len : ℕ) → Rise 0 result.places len (length result.bytes) }
+    pub fn unclear(alloc: Global, number: u32) -> Finding
+        ensures found { (meaning : Meaning) (wanted : Wanted) (path : List ℕ) → IsFound meaning wanted path None number result }
+        ensures placed { (old : List ℕ) (key : Option Key) (path : List ℕ) → IsFinding (RisesIn old) key number path result }
     {
-        Surveyed {
-            clear: false,
-            places: List::of(Vec::new(alloc)),
-            unspellable: None,
-            bytes: List::of(Vec::new(alloc)),
+        Finding {
+            file: Surveyed {
+                number,
+                clear: false,
+                unspellable: None,
+                bytes: List::of(Vec::new(alloc)),
+            },
+            facts: FactSet::new(alloc),
         }
     }
 
-    /// A text of the small form of these bytes, in which the entity has this key.
+    /// A text of the small form of these bytes, in the file of a number. The source has number 0.
     pub fn of(
         alloc: Global,
         sought: &Sought,
-        key: Option<EntityKey>,
+        number: u32,
         bytes: &[u8],
         text: &SmallText,
-    ) -> Result<Surveyed, OutOfMemory>
+    ) -> Result<Finding, OutOfMemory>
         requires text { IsTextOf bytes.now text.now }
-        requires named { (k : Key) → option_map key_of_code key ≡ Some k → IsNameOf sought.now.old.now k (lexed bytes.now).tokens text.now.denotes }
-        ensures surveyed { IfOk result (λ made. (meaning : Meaning) (wanted : Wanted) (path : List ℕ) → meaning (lexed bytes.now) ≡ Some text.now.denotes
-            → wanted.new ≡ sought.now.new.now → key_at wanted path wanted.key ≡ option_map key_of_code key.entry → IsSurveyed meaning wanted path (Some bytes.now) made) }
-        ensures rises { IfOk result (λ made. Rise 0 made.places (length sought.now.old.now) (length made.bytes)) }
+        requires named { (k : Key) → key_in_file number (option_map key_of_code sought.now.key) ≡ Some k → IsNameOf sought.now.old.now k (lexed bytes.now).tokens text.now.denotes }
+        ensures found { IfOk result (λ made. (meaning : Meaning) (wanted : Wanted) (path : List ℕ) → meaning (lexed bytes.now) ≡ Some text.now.denotes
+            → wanted.new ≡ sought.now.new.now → wanted.key ≡ option_map key_of_code sought.now.key → key_at wanted path wanted.key ≡ key_in_file number wanted.key
+            → IsFound meaning wanted path (Some bytes.now) number made) }
+        ensures placed { IfOk result (λ made. (path : List ℕ) → IsFinding (RisesIn sought.now.old.now) (option_map key_of_code sought.now.key) number path made) }
     {
         places_rise();
-        let places = places_in(alloc, key, text)?;
-        let kept = bytes_for(alloc, &places, bytes)?;
-        Ok(Surveyed {
-            clear: !text.has_text(sought.new),
-            places: List::of(places),
-            unspellable: unspellable_in(bytes, sought.new, key, text),
-            bytes: List::of(kept),
+        entities_have_one_name();
+        a_text_tells_the_places();
+        a_text_tells_its_own_places();
+        let key = sought.key_in_file(number);
+        let kept = bytes_for(alloc, text.has_text(sought.old), bytes)?;
+        Ok(Finding {
+            file: Surveyed {
+                number,
+                clear: !text.has_text(sought.new),
+                unspellable: unspellable_in(bytes, sought.new, key, text),
+                bytes: List::of(kept),
+            },
+            facts: facts_of(alloc, text, PathNo(number), sought.old)?,
         })
     }
 
     // Any text but the source.
-    fn of_bytes(alloc: Global, sought: &Sought, bytes: &[u8]) -> Result<Surveyed, OutOfMemory>
+    fn of_bytes(
+        alloc: Global,
+        sought: &Sought,
+        number: u32,
+        bytes: &[u8],
+    ) -> Result<Finding, OutOfMemory>
         requires size { length bytes.now ≤ 16777216 }
+        requires later { 0 < number }
         requires named { IsNamed sought.now.old.now (option_map key_of_code sought.now.key) }
-        ensures surveyed { IfOk result (λ made. (meaning : Meaning) (path : List ℕ) → IsMeaning meaning → bytes_eq sought.now.source.now path ≡ false
-            → IsSurveyed meaning (wanted_of sought.now) path (Some bytes.now) made) }
-        ensures rises { IfOk result (λ made. Rise 0 made.places (length sought.now.old.now) (length made.bytes)) }
+        ensures found { IfOk result (λ made. (meaning : Meaning) (path : List ℕ) → IsMeaning meaning → bytes_eq sought.now.source.now path ≡ false
+            → IsFound meaning (wanted_of sought.now) path (Some bytes.now) number made) }
+        ensures placed { IfOk result (λ made. (path : List ℕ) → IsFinding (RisesIn sought.now.old.now) (option_map key_of_code sought.now.key) number path made) }
     {
         denotations_are_one();
         match SmallText::read(alloc, bytes)? {
-            Some(text) => Surveyed::of(alloc, sought, sought.key_elsewhere(), bytes, &text),
-            None => Ok(Surveyed::unclear(alloc)),
+            Some(text) => Finding::of(alloc, sought, number, bytes, &text),
+            None => Ok(Finding::unclear(alloc, number)),
         }
-    }
-}
-
-fn places_in(
-    alloc: Global,
-    key: Option<EntityKey>,
-    text: &SmallText,
-) -> Result<Vec<usize>, OutOfMemory>
-    requires { length text.now.denotes ≡ length text.now.tokens }
-    ensures { IfOk result (λ places. places.items ≡ spec.places_in_text (option_map key_of_code key.entry) (tokens_of text.now) (Some text.now.denotes)) }
-{
-    match key {
-        Some(key) => text.places_of(alloc, key),
-        None => Ok(Vec::new(alloc)),
     }
 }
 
@@ -146,19 +167,22 @@ fn unspellable_in(
 }
 
 // A file in which nothing changes need not be kept.
-fn bytes_for(alloc: Global, places: &[usize], bytes: &[u8]) -> Result<Vec<u8>, OutOfMemory>
-    ensures { IfOk result (λ kept. 0 < length places.now → kept.items ≡ bytes.now) }
+fn bytes_for(alloc: Global, changes: bool, bytes: &[u8]) -> Result<Vec<u8>, OutOfMemory>
+    ensures { IfOk result (λ kept. changes ≡ true → kept.items ≡ bytes.now) }
 {
-    if places.is_empty() {
+    if !changes {
         return Ok(Vec::new(alloc));
     }
     Ok(bytes.to_vec(alloc)?)
 }
 
-/// The files that a run has come to, by their paths, and how many bytes they have together.
+/// The files that a run has come to, by their paths, the last number that one of them was given, the facts that they
+/// tell, and how many bytes they have together. The source has number 0.
 #[derive(Drop)]
 pub struct Survey {
     pub files: BTreeMap<PathText, Surveyed>,
+    pub last: u32,
+    pub facts: FactSet,
     pub total: usize,
 }
 
@@ -167,16 +191,21 @@ impl Survey {
     pub fn start(
         alloc: Global,
         source: PathText,
-        found: Surveyed,
+        found: Finding,
         size: usize,
     ) -> Result<Survey, OutOfMemory>
-        ensures rises { IfOk result (λ made. (old : List ℕ) → Rise 0 found.places (length old) (length found.bytes) → AllRise old made.files.entries) }
+        ensures placed { IfOk result (λ made. (old : List ℕ) (key : Option Key) → IsFinding (RisesIn old) key 0 source found → IsTable (RisesIn old) key made) }
         ensures holds { IfOk result (λ made. (meaning : Meaning) (files : Files) (s : Wanted) → source ≡ s.source → size ≤ 16777216
-            → size ≡ spec.size_of (files source) → IsSurveyed meaning s source (files source) found → Holds meaning files s [] made) }
+            → size ≡ spec.size_of (files source) → IsFound meaning s source (files source) 0 found → Holds meaning files s [] made) }
     {
         let mut files = BTreeMap::new(alloc);
-        files.insert(source, found)?;
-        Ok(Survey { files, total: size })
+        files.insert(source, found.file)?;
+        Ok(Survey {
+            files,
+            last: 0,
+            facts: found.facts,
+            total: size,
+        })
     }
 
     /// Reads the main files of the units, and answers the first refusal among the batches.
@@ -188,7 +217,7 @@ impl Survey {
         units: &[Unit],
     ) -> Result<(), Refusal<'a>>
         requires named { IsNamed sought.now.old.now (option_map key_of_code sought.now.key) }
-        ensures rises { OnOk result (AllRise sought.now.old.now self.old.files.entries → AllRise sought.now.old.now self.new.files.entries) }
+        ensures placed { OnOk result (IsPlaced sought.now self.old → IsPlaced sought.now self.new) }
         ensures reads { ReadsOnly (T.files tree.old) (T.files tree.new) (T.reads tree.old) (T.reads tree.new) (T.replaces tree.old) (T.replaces tree.new) }
         ensures surveyed { (meaning : Meaning) (files : Files) → IsMeaning meaning → T.files tree.old ≡ Some files
             → Holds meaning files (wanted_of sought.now) [] self.old → Surveys meaning files (wanted_of sought.now) units.now self.new result }
@@ -211,7 +240,7 @@ impl Survey {
         batch: &[Unit],
     ) -> Result<(), Refusal<'a>>
         requires named { IsNamed sought.now.old.now (option_map key_of_code sought.now.key) }
-        ensures rises { OnOk result (AllRise sought.now.old.now self.old.files.entries → AllRise sought.now.old.now self.new.files.entries) }
+        ensures placed { OnOk result (IsPlaced sought.now self.old → IsPlaced sought.now self.new) }
         ensures reads { ReadsOnly (T.files tree.old) (T.files tree.new) (T.reads tree.old) (T.reads tree.new) (T.replaces tree.old) (T.replaces tree.new) }
         ensures met { (meaning : Meaning) (files : Files) (done : List UnitOf) → IsMeaning meaning → T.files tree.old ≡ Some files
             → Holds meaning files (wanted_of sought.now) done self.old → Met meaning files (wanted_of sought.now) (done ++ batch.now) self.new result }
@@ -232,12 +261,13 @@ impl Survey {
         unit: &Unit,
     ) -> Result<(), Refusal<'a>>
         requires named { IsNamed sought.now.old.now (option_map key_of_code sought.now.key) }
-        ensures rises { OnOk result (AllRise sought.now.old.now self.old.files.entries → AllRise sought.now.old.now self.new.files.entries) }
+        ensures placed { OnOk result (IsPlaced sought.now self.old → IsPlaced sought.now self.new) }
         ensures reads { ReadsOnly (T.files tree.old) (T.files tree.new) (T.reads tree.old) (T.reads tree.new) (T.replaces tree.old) (T.replaces tree.new) }
         ensures met { (meaning : Meaning) (files : Files) (done : List UnitOf) → IsMeaning meaning → T.files tree.old ≡ Some files
             → Holds meaning files (wanted_of sought.now) done self.old → Met meaning files (wanted_of sought.now) (done ++ unit.now ∷ []) self.new result }
         ensures cause { HasReadCause (λ path. (path ≡ unit.now.main) × Rose (T.reads tree.old path) (T.reads tree.new path)) result }
     {
+        facts_are_ordered();
         if unit.words.bytes().len() > MAX_FILE {
             return Err(Refusal::LimitFiles);
         }
@@ -255,37 +285,64 @@ impl Survey {
         path: &PathText,
     ) -> Result<(), Refusal<'a>>
         requires named { IsNamed sought.now.old.now (option_map key_of_code sought.now.key) }
-        ensures rises { OnOk result (AllRise sought.now.old.now self.old.files.entries → AllRise sought.now.old.now self.new.files.entries) }
+        ensures placed { OnOk result (IsPlaced sought.now self.old → IsPlaced sought.now self.new) }
         ensures reads { ReadsOnly (T.files tree.old) (T.files tree.new) (T.reads tree.old) (T.reads tree.new) (T.replaces tree.old) (T.replaces tree.new) }
         ensures added { (meaning : Meaning) (files : Files) → IsMeaning meaning → T.files tree.old ≡ Some files → bytes_eq sought.now.source.now path.now ≡ false
             → Added meaning (wanted_of sought.now) path.now (files path.now) self.old self.new result }
         ensures cause { HasReadCause (λ p. (p ≡ path.now) × Rose (T.reads tree.old p) (T.reads tree.new p)) result }
     {
+        let Some(number) = self.last.checked_add(1) else {
+            return Err(Refusal::OutOfMemory);
+        };
         let mut bytes = Vec::new(alloc);
         match tree.read(alloc, path, MAX_FILE, &mut bytes) {
             ReadEnd::Bytes => {
-                let found = Surveyed::of_bytes(alloc, sought, &bytes)?;
-                self.add(path.copy(alloc)?, found, bytes.len())
+                let found = Finding::of_bytes(alloc, sought, number, &bytes)?;
+                self.add(path.copy(alloc)?, found, number, bytes.len())
             }
-            ReadEnd::Absent => self.add(path.copy(alloc)?, Surveyed::unclear(alloc), 0),
+            ReadEnd::Absent => {
+                let found = Finding::unclear(alloc, number);
+                self.add(path.copy(alloc)?, found, number, 0)
+            }
             ReadEnd::Long => Err(Refusal::LimitFiles),
             ReadEnd::Failed => Err(Refusal::ReadFault(path.copy(alloc)?)),
             ReadEnd::OutOfMemory => Err(Refusal::OutOfMemory),
         }
     }
 
-    fn add<'a>(&mut self, path: PathText, found: Surveyed, size: usize) -> Result<(), Refusal<'a>>
-        ensures adds { Adds path found size self.old self.new result }
+    // Puts a file to the others, and its facts to theirs.
+    fn add<'a>(
+        &mut self,
+        path: PathText,
+        found: Finding,
+        number: u32,
+        size: usize,
+    ) -> Result<(), Refusal<'a>>
+        ensures adds { Adds path found number size self.old self.new result }
         ensures cause { HasReadCause (λ p. ⊥) result }
-        ensures rises { OnOk result ((old : List ℕ) → Rise 0 found.places (length old) (length found.bytes) → AllRise old self.old.files.entries → AllRise old self.new.files.entries) }
+        ensures placed { OnOk result ((old : List ℕ) (key : Option Key) → number ≡ self.old.last + 1 → IsFinding (RisesIn old) key (self.old.last + 1) path found → IsTable (RisesIn old) key self.old → IsTable (RisesIn old) key self.new) }
     {
+        facts_are_ordered();
         let total = self.total.saturating_add(size);
         if total > MAX_TOTAL {
             return Err(Refusal::LimitFiles);
         }
-        self.files.insert(path, found)?;
+        self.facts.union(&found.facts)?;
+        self.files.insert(path, found.file)?;
+        self.last = number;
         self.total = total;
         Ok(())
+    }
+
+    /// The places that the facts tell of an entity of the source with this key, for each file by its number.
+    pub fn places(&self, alloc: Global, key: EntityKey) -> Result<Vec<Vec<usize>>, OutOfMemory>
+        ensures length { IfOk result (λ places. length places.items ≡ self.now.last + 1) }
+        ensures places { IfOk result (λ places. (n : ℕ) (offsets : List ℕ) → slice_get (map (λ v. v.items) places.items) n ≡ Some offsets
+            → ArePlaces self.now.facts n (fact_key.key_over 0 (key_of_code key.entry)) offsets) }
+    {
+        let key = key_over(alloc, PathNo(0), key)?;
+        let places = places_by_file(alloc, &self.facts, &key, self.last as usize + 1)?;
+        Ok(places)
     }
 
     /// The first place at which the new name can't be spelled refuses.

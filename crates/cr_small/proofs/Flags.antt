@@ -107,7 +107,7 @@ module _ (g : ℕ → Bool) where
       grown : All IsFlagged (b.entries ++ e ∷ [])
       grown = All-push IsFlagged b.entries e all.0 own
 
-      by : (x : Bool) → is_redeclared b.entries e ≡ x → BoundFlagged (if x then None else Some (record { after = record { entries = b.entries ++ e ∷ []; path = b.path; next = b.next }; denotes = Some (denotation (b.entries ++ e ∷ []) e) }))
+      by : (x : Bool) → is_redeclared b.entries e ≡ x → BoundFlagged (if x then None else Some (record { after = record { entries = b.entries ++ e ∷ []; path = b.path; next = b.next }; denotes = Some (denotation (b.entries ++ e ∷ []) e true) }))
       by true free = tt
       by false free =
           let self = agrees-self b.entries e free in
@@ -117,10 +117,10 @@ module _ (g : ℕ → Bool) where
   declared-own : (b : Bindings) (e : Entry) (n : ℕ) (m : Bound) (d : Option Denotation) → e.token ≡ n → declared b e ≡ Some m → m.denotes ≡ d → g n ≡ flag d → IsFlagged e
   declared-own b e n m d token is denotes own = by (is_redeclared b.entries e) is
     where
-      by : (x : Bool) → (if x then None else Some (record { after = record { entries = b.entries ++ e ∷ []; path = b.path; next = b.next }; denotes = Some (denotation (b.entries ++ e ∷ []) e) })) ≡ Some m → IsFlagged e
+      by : (x : Bool) → (if x then None else Some (record { after = record { entries = b.entries ++ e ∷ []; path = b.path; next = b.next }; denotes = Some (denotation (b.entries ++ e ∷ []) e true) })) ≡ Some m → IsFlagged e
       by true h = let no : None ≡ Some m = h in let bad : ⊥ = cc in absurd bad
       by false h =
-          let same : (record { after = record { entries = b.entries ++ e ∷ []; path = b.path; next = b.next }; denotes = Some (denotation (b.entries ++ e ∷ []) e) }) ≡ m = cc in
+          let same : (record { after = record { entries = b.entries ++ e ∷ []; path = b.path; next = b.next }; denotes = Some (denotation (b.entries ++ e ∷ []) e true) }) ≡ m = cc in
           ap g token ∙ own ∙ ap flag (sym denotes) ∙ sym (ap (λ (z : Bound). flag z.denotes) same)
 
   mentioned-flagged : (b : Bindings) (name : List ℕ) (o : Option Entry) → lookup b.entries name b.path ≡ o → AreFlagged b.entries → BoundFlagged (mentioned b o)

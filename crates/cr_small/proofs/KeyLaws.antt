@@ -12,7 +12,7 @@ use Rattle.cr_small.specs.Resolution.{file_scope, resolved}
 use Rattle.cr_small.specs.Keys.{Key, external, at, has_external_linkage, key_of_token, key_of, is_key}
 use Rattle.cr_small.specs.Renaming.{Target, target_of, target_among, target_at, covers, has_key, denotes_key, places_among}
 use Rattle.cr_small.specs.SmallForm.{IsSmallForm, Resolves}
-use Rattle.cr_small.specs.Laws.{IsNameOf, PlacesRise, HasPlace, NamesItsKey, Decided}
+use Rattle.cr_small.specs.Laws.{IsNameOf, PlacesRise, HasPlace, NamesItsKey, HaveOneName, Decided}
 use Rattle.cr_small.specs.declared.grammar.Level.TheVariants as level
 use Rattle.cr_small.specs.declared.grammar.State.TheVariants as state
 use Rattle.cr_small.specs.declared.grammar.Part.{Part}
@@ -234,6 +234,14 @@ names-its-key stands bytes name ds offset target small h is =
     let own : Some one.own ≡ Some f.0.token = sym one.own_at ∙ f.0.token_at in
     let same : one.own ≡ f.0.token = cc in
     sym (named stands bytes ds small name target.key f.0.index f.0.denotes (inl is) f.0.denotes_at f.1) ∙ ap (λ (z : Token). z.text) same ∙ sym f.0.name
+
+pub one-name : StandsInOrder → HaveOneName
+one-name stands bytes name key ds small is i t d h k e =
+    let one = keyed-at (lexed bytes) ds i d small k in
+    let own : Some one.own ≡ Some t = sym one.own_at ∙ h in
+    let same : one.own ≡ t = cc in
+    let text = named stands bytes ds small name key i d is k e in
+    (ap (λ (z : Token). z.text) (sym same) ∙ text, ap is_name (sym text) ∙ one.name)
 
 -- what tokens denote, by their one derivation
 abbrev meaning-of : List Token → Option (List Part) → Bool → Option (List (Option Denotation))

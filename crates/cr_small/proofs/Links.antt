@@ -28,8 +28,8 @@ module _ (f : ℕ → List ℕ) (entity : ℕ) (new : List ℕ) where
   settled-push : (es : List Entry) (e : Entry) (d : Denotation) → IsSettled es d → IsSettled (es ++ e ∷ []) d
   settled-push es e d h x = let k = h x in (k.0, first-stays es e k.0 (f d.token) k.1, k.2)
 
-  denotation-settled : (es : List Entry) (e : Entry) → All (IsKnown f entity new es) es → IsKnown f entity new es e → IsSettled es (denotation es e)
-  denotation-settled es e all k x = by (first_linked e.name es) refl (k.2 x)
+  denotation-settled : (es : List Entry) (e : Entry) → All (IsKnown f entity new es) es → IsKnown f entity new es e → (declares : Bool) → IsSettled es (denotation es e declares)
+  denotation-settled es e all k declares x = by (first_linked e.name es) refl (k.2 x)
     where
       by : (o : Option Entry) → first_linked e.name es ≡ o → is_some (first_linked e.name es) ≡ true → (w : Entry) × (first_linked (f (entity_of es e)) es ≡ Some w) × (w.token ≡ entity_of es e)
       by None h g = let no : false ≡ true = ap is_some (sym h) ∙ g in let bad : ⊥ = cc in absurd bad
@@ -45,13 +45,13 @@ module _ (f : ℕ → List ℕ) (entity : ℕ) (new : List ℕ) where
   declared-settles : (b : Bindings) (n : ℕ) (text : List ℕ) (function : Bool) (word : Option Storage) → All (IsKnown f entity new b.entries) b.entries → IsFresh f entity new text → f n ≡ text → Settles b (declared b (entry_at b function word text n))
   declared-settles b n text function word all fresh own = by (is_redeclared b.entries (entry_at b function word text n))
     where
-      by : (x : Bool) → Settles b (if x then None else Some (record { after = record { entries = b.entries ++ entry_at b function word text n ∷ []; path = b.path; next = b.next }; denotes = Some (denotation (b.entries ++ entry_at b function word text n ∷ []) (entry_at b function word text n)) }))
+      by : (x : Bool) → Settles b (if x then None else Some (record { after = record { entries = b.entries ++ entry_at b function word text n ∷ []; path = b.path; next = b.next }; denotes = Some (denotation (b.entries ++ entry_at b function word text n ∷ []) (entry_at b function word text n) true) }))
       by true = tt
-      by false = (λ d h. settled-push b.entries (entry_at b function word text n) d h, denotation-settled (b.entries ++ entry_at b function word text n ∷ []) (entry_at b function word text n) (known-push f entity new b.entries (entry_at b function word text n) all own fresh (λ p. ap is_file_scope p)) (known-self f entity new b.entries (entry_at b function word text n) own fresh (λ p. ap is_file_scope p)))
+      by false = (λ d h. settled-push b.entries (entry_at b function word text n) d h, denotation-settled (b.entries ++ entry_at b function word text n ∷ []) (entry_at b function word text n) (known-push f entity new b.entries (entry_at b function word text n) all own fresh (λ p. ap is_file_scope p)) (known-self f entity new b.entries (entry_at b function word text n) own fresh (λ p. ap is_file_scope p)) true)
 
   mentioned-settles : (b : Bindings) (text : List ℕ) (o : Option Entry) → All (IsKnown f entity new b.entries) b.entries → lookup b.entries text b.path ≡ o → Settles b (mentioned b o)
   mentioned-settles b text None all h = tt
-  mentioned-settles b text (Some e) all h = (λ d k. k, denotation-settled b.entries e all (All-lookup (IsKnown f entity new b.entries) b.path text b.entries e all h).0)
+  mentioned-settles b text (Some e) all h = (λ d k. k, denotation-settled b.entries e all (All-lookup (IsKnown f entity new b.entries) b.path text b.entries e all h).0 false)
 
   bound-settles : (b : Bindings) (n : ℕ) (text : List ℕ) (p : Part) → All (IsKnown f entity new b.entries) b.entries → IsFresh f entity new text → f n ≡ text → Settles b (bound b n text p)
   bound-settles b n text part.Plain all fresh own = (λ d k. k, tt)

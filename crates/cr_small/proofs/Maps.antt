@@ -6,6 +6,7 @@ use Rattle.std.specs.List.{list_any}
 use Rattle.std.specs.Option.{option_map, option_or, is_some}
 use Rattle.cr_small.specs.Declarations.{Entry, is_in, last_in, lookup, is_linked, first_linked, is_internal, is_seen_internal, token_or, entity_of, both_or_neither, is_redeclared}
 use Rattle.cr_small.specs.Resolution.{Bindings, is_file_scope, denotation, declared, mentioned, entry_at}
+use Rattle.cr_small.specs.declared.binder.Denotation.{Denotation}
 use Rattle.cr_small.specs.Holding.{symbol_of, symbol_in, answer, linked_answer, again_answer, is_internal_symbol, IsOpened, AllOpened, other_kind, IsOneKind, IsPresent, HoldsBody, Holds, Answers}
 use Rattle.cr_small.specs.declared.grammar.Storage.{Storage}
 use Rattle.cr_small.specs.declared.scopes.Symbol.{Symbol}
@@ -114,16 +115,17 @@ file_mention es next name h = by (last_in [] name es) refl (first_linked name es
 some-injective : {X : Type 0} {x y : X} → Some x ≡ Some y → x ≡ y
 some-injective e = cc
 
--- the last declaration of a name with linkage has that of the first
-same_linkage : (es : List Entry) (next : ℕ) (name : List ℕ) (e f : Entry) → AllOpened next es → IsOneKind es → last_in [] name es ≡ Some e → first_linked name es ≡ Some f → f.internal ≡ e.internal
-same_linkage es next name e f opened kinds last first =
+-- the last declaration of a name with linkage is of the kind of the first, and has its linkage
+same_kind : (es : List Entry) (next : ℕ) (name : List ℕ) (e f : Entry) → AllOpened next es → IsOneKind es → last_in [] name es ≡ Some e → first_linked name es ≡ Some f → (f.function ≡ e.function) × (f.internal ≡ e.internal)
+same_kind es next name e f opened kinds last first =
     let is = last_in-Some [] name es next e opened last in
     let linked : is_linked name e ≡ true = ap (λ b. b && bytes_eq e.name name) is.2 ∙ ap (λ n. bytes_eq n name) is.1 ∙ bytes_eq-refl name in
     let none : other_kind f.function f.internal name e ≡ false = last_in-none (other_kind f.function f.internal name) [] name es e last (kinds name f first) in
-    agreed f.internal e.internal (by (both_or_neither f.function e.function) (both_or_neither f.internal e.internal) (sym (ap (λ b. b && not (both_or_neither f.function e.function && both_or_neither f.internal e.internal)) linked) ∙ none))
+    let two = by (both_or_neither f.function e.function) (both_or_neither f.internal e.internal) (sym (ap (λ b. b && not (both_or_neither f.function e.function && both_or_neither f.internal e.internal)) linked) ∙ none) in
+    (agreed f.function e.function two.0, agreed f.internal e.internal two.1)
   where
-    by : (k l : Bool) → not (k && l) ≡ false → l ≡ true
-    by true true h = refl
+    by : (k l : Bool) → not (k && l) ≡ false → (k ≡ true) × (l ≡ true)
+    by true true h = (refl, refl)
     by true false h = let no : ⊥ = cc in absurd no
     by false l h = let no : ⊥ = cc in absurd no
 
@@ -138,39 +140,41 @@ mention_file s b name r h path e =
           rw (r', l) tt)
       | inr some ↦ (
           let is = last_in-Some [] name b.entries b.next some.0 h.opened some.2 in
-          let r' : r ≡ Some (answer (symbol_of some.1) true) = e ∙ ap (λ o. linked_answer o) (h.file name ∙ ap (option_map symbol_of) some.3) in
+          let r' : r ≡ Some (answer (symbol_of some.1) true false) = e ∙ ap (λ o. linked_answer o) (h.file name ∙ ap (option_map symbol_of) some.3) in
           let l : lookup b.entries name b.path ≡ Some some.0 = path ∙ some.2 in
           let t : entity_of b.entries some.0 ≡ some.1.token =
           ap (λ x. if x then token_or some.0.token (first_linked some.0.name b.entries) else some.0.token) is.2
           ∙ ap (λ n. token_or some.0.token (first_linked n b.entries)) is.1 ∙ ap (token_or some.0.token) some.3 in
-          let internal : some.1.internal ≡ some.0.internal = same_linkage b.entries b.next name some.0 some.1 h.opened h.one_kind some.2 some.3 in
-          let d : denotation b.entries some.0 ≡ record { token = some.1.token; linked = true; internal = some.1.internal } =
-          ap (λ k. record { token = k; linked = some.0.linked; internal = some.0.internal }) t ∙ ap (λ x. record { token = some.1.token; linked = x; internal = some.0.internal }) is.2
-          ∙ ap (λ x. record { token = some.1.token; linked = true; internal = x }) (sym internal) in
+          let kind = same_kind b.entries b.next name some.0 some.1 h.opened h.one_kind some.2 some.3 in
+          let d : denotation b.entries some.0 false ≡ record { token = some.1.token; function = some.1.function; linked = true; internal = some.1.internal; declares = false } =
+          ap (λ k. record { token = k; function = some.0.function; linked = some.0.linked; internal = some.0.internal; declares = false }) t
+          ∙ ap (λ x. record { token = some.1.token; function = some.0.function; linked = x; internal = some.0.internal; declares = false }) is.2
+          ∙ ap (λ x. record { token = some.1.token; function = x; linked = true; internal = some.0.internal; declares = false }) (sym kind.0)
+          ∙ ap (λ x. record { token = some.1.token; function = some.1.function; linked = true; internal = x; declares = false }) (sym kind.1) in
           rw (r', l) (h, ap (λ x. Some x) (sym d)))
     ]
 
 -- a name of the open body
 pub mention_body : (s : Scopes) (b : Bindings) (name : List ℕ) (symbol : Symbol) → Holds s b → s.in_body ≡ true → symbol_in name s.body.entries ≡ Some symbol
-    → Answers s (mentioned b (lookup b.entries name b.path)) (Some (answer symbol false))
+    → Answers s (mentioned b (lookup b.entries name b.path)) (Some (answer symbol false false))
 mention_body s b name symbol h inside f = at b.path refl (subst (λ x. IsPresent x b.next b.path) inside h.present)
   where
     holds : symbol_in name s.body.entries ≡ option_map symbol_of (last_in b.path name b.entries)
     holds = let P : Bool → Type 0 = λ x. HoldsBody x s.body.entries b.path b.entries in (subst P inside h.body) name
 
-    at : (path : List ℕ) → b.path ≡ path → IsPresent true b.next path → Answers s (mentioned b (lookup b.entries name path)) (Some (answer symbol false))
+    at : (path : List ℕ) → b.path ≡ path → IsPresent true b.next path → Answers s (mentioned b (lookup b.entries name path)) (Some (answer symbol false false))
     at [] p present = elim present [ ]
     at (k ∷ j ∷ rest) p present = elim present [ ]
     at (k ∷ []) p present = by (last_in (k ∷ []) name b.entries) refl (sym f ∙ holds ∙ ap (λ q. option_map symbol_of (last_in q name b.entries)) p)
       where
-        by : (o : Option Entry) → last_in (k ∷ []) name b.entries ≡ o → Some symbol ≡ option_map symbol_of o → Answers s (mentioned b (option_or o (last_in [] name b.entries))) (Some (answer symbol false))
+        by : (o : Option Entry) → last_in (k ∷ []) name b.entries ≡ o → Some symbol ≡ option_map symbol_of o → Answers s (mentioned b (option_or o (last_in [] name b.entries))) (Some (answer symbol false false))
         by None l e = let no : ⊥ = cc in absurd no
         by (Some y) l e =
             let is = last_in-Some (k ∷ []) name b.entries b.next y h.opened l in
             let same : symbol ≡ symbol_of y = cc in
-            let d : denotation b.entries y ≡ record { token = symbol.token; linked = false; internal = symbol.internal } =
-            ap (λ x. record { token = if x then token_or y.token (first_linked y.name b.entries) else y.token; linked = x; internal = y.internal }) is.2
-            ∙ ap (λ (z : Symbol). record { token = z.token; linked = false; internal = z.internal }) (sym same) in
+            let d : denotation b.entries y false ≡ record { token = symbol.token; function = symbol.function; linked = false; internal = symbol.internal; declares = false } =
+            ap (λ x. record { token = if x then token_or y.token (first_linked y.name b.entries) else y.token; function = y.function; linked = x; internal = y.internal; declares = false }) is.2
+            ∙ ap (λ (z : Symbol). record { token = z.token; function = z.function; linked = false; internal = z.internal; declares = false }) (sym same) in
             (h, ap (λ x. Some x) (sym d))
 
 -- a name that the open body doesn't declare is one of file scope
@@ -193,11 +197,11 @@ lookup_out s b name h none = by s.in_body refl
     by false shut = let p : b.path ≡ [] = subst (λ x. IsPresent x b.next b.path) shut h.present in ap (lookup b.entries name) p
 
 pub mentions : (s : Scopes) (b : Bindings) (name : List ℕ) (here : Option Symbol) → Holds s b → here ≡ (if s.in_body then symbol_in name s.body.entries else None)
-    → ((symbol : Symbol) → here ≡ Some symbol → Answers s (mentioned b (lookup b.entries name b.path)) (Some (answer symbol false)))
+    → ((symbol : Symbol) → here ≡ Some symbol → Answers s (mentioned b (lookup b.entries name b.path)) (Some (answer symbol false false)))
     × (here ≡ None → Answers s (mentioned b (lookup b.entries name b.path)) (linked_answer (symbol_in name s.file.entries)))
 mentions s b name here h e = (λ symbol some. by s.in_body refl symbol (sym e ∙ some), λ none. mention_file s b name _ h (lookup_out s b name h (λ inside. sym (e ∙ ap (λ x. if x then symbol_in name s.body.entries else None) inside) ∙ none)) refl)
   where
-    by : (x : Bool) → s.in_body ≡ x → (symbol : Symbol) → (if x then symbol_in name s.body.entries else None) ≡ Some symbol → Answers s (mentioned b (lookup b.entries name b.path)) (Some (answer symbol false))
+    by : (x : Bool) → s.in_body ≡ x → (symbol : Symbol) → (if x then symbol_in name s.body.entries else None) ≡ Some symbol → Answers s (mentioned b (lookup b.entries name b.path)) (Some (answer symbol false false))
     by true inside symbol f = mention_body s b name symbol h inside f
     by false outside symbol f = let no : ⊥ = cc in absurd no
 
@@ -224,14 +228,14 @@ turned false false = refl
 
 -- an entry that doesn't clash is added
 added : (s : Scopes) (b : Bindings) (e : Entry) (r : Binding) → is_redeclared b.entries e ≡ false
-    → Holds s (record { entries = b.entries ++ e ∷ []; path = b.path; next = b.next }) → r.denotes ≡ Some (denotation (b.entries ++ e ∷ []) e)
+    → Holds s (record { entries = b.entries ++ e ∷ []; path = b.path; next = b.next }) → r.denotes ≡ Some (denotation (b.entries ++ e ∷ []) e true)
     → Answers s (declared b e) (Some r)
 added s b e r free h d =
-    subst (λ x. Answers s (if x then None else Some (record { after = record { entries = b.entries ++ e ∷ []; path = b.path; next = b.next }; denotes = Some (denotation (b.entries ++ e ∷ []) e) })) (Some r)) (sym free) (h, d)
+    subst (λ x. Answers s (if x then None else Some (record { after = record { entries = b.entries ++ e ∷ []; path = b.path; next = b.next }; denotes = Some (denotation (b.entries ++ e ∷ []) e true) })) (Some r)) (sym free) (h, d)
 
 refused : (s : Scopes) (b : Bindings) (e : Entry) → is_redeclared b.entries e ≡ true → Answers s (declared b e) None
 refused s b e clash =
-    subst (λ x. Answers s (if x then None else Some (record { after = record { entries = b.entries ++ e ∷ []; path = b.path; next = b.next }; denotes = Some (denotation (b.entries ++ e ∷ []) e) })) None) (sym clash) tt
+    subst (λ x. Answers s (if x then None else Some (record { after = record { entries = b.entries ++ e ∷ []; path = b.path; next = b.next }; denotes = Some (denotation (b.entries ++ e ∷ []) e true) })) None) (sym clash) tt
 
 module _ (s : Scopes) (b : Bindings) (function : Bool) (word : Option Storage) (name : List ℕ) (token : ℕ) (h : Holds s b) where
   -- the declaration, as a map holds it
@@ -271,14 +275,14 @@ module _ (s : Scopes) (b : Bindings) (function : Bool) (word : Option Storage) (
 
   declared_by_own : (grown : Scopes) → s.in_body ≡ true → grown.in_body ≡ true → grown.file.entries ≡ s.file.entries
       → Inserts name own s.body.entries grown.body.entries → symbol_in name s.body.entries ≡ None
-      → Answers grown (declared b (entry_at b function word name token)) (Some (answer own false))
+      → Answers grown (declared b (entry_at b function word name token)) (Some (answer own false true))
   declared_by_own grown inside inside' files inserts none =
       let p : is_file_scope b.path ≡ false = inside_internal b.next b.path (subst (λ x. IsPresent x b.next b.path) inside h.present) in
       let free : last_in b.path name b.entries ≡ None = map-None (last_in b.path name b.entries) (sym (body_holds inside name) ∙ none) in
-      added grown b (entry_at b function word name token) (answer own false)
+      added grown b (entry_at b function word name token) (answer own false true)
       (body_clashes b.entries (entry_at b function word name token) p ∙ (last_in-any b.path name b.entries).0 free)
       (body_grown grown inside inside' files inserts p)
-      (sym (ap (λ x. Some (record { token = if x then token_or token (first_linked name (b.entries ++ entry_at b function word name token ∷ [])) else token; linked = x; internal = own.internal })) p))
+      (sym (ap (λ x. Some (record { token = if x then token_or token (first_linked name (b.entries ++ entry_at b function word name token ∷ [])) else token; function = function; linked = x; internal = own.internal; declares = true })) p))
 
   -- inside braces a declaration has no linkage, whatever its storage word
   inside_own : s.in_body ≡ true → (record { function = function; token = token; internal = false }) ≡ own
@@ -288,9 +292,9 @@ module _ (s : Scopes) (b : Bindings) (function : Bool) (word : Option Storage) (
 
   pub declared_in_body : (grown : Scopes) → s.in_body ≡ true → grown.in_body ≡ true → grown.file.entries ≡ s.file.entries
       → Inserts name (record { function = function; token = token; internal = false }) s.body.entries grown.body.entries → symbol_in name s.body.entries ≡ None
-      → Answers grown (declared b (entry_at b function word name token)) (Some (answer (record { function = function; token = token; internal = false }) false))
+      → Answers grown (declared b (entry_at b function word name token)) (Some (answer (record { function = function; token = token; internal = false }) false true))
   declared_in_body grown inside inside' files inserts none =
-      subst (λ (z : Symbol). Answers grown (declared b (entry_at b function word name token)) (Some (answer z false))) (sym (inside_own inside))
+      subst (λ (z : Symbol). Answers grown (declared b (entry_at b function word name token)) (Some (answer z false true))) (sym (inside_own inside))
       (declared_by_own grown inside inside' files (λ n. inserts n ∙ ap (λ (z : Symbol). if bytes_eq name n then Some z else symbol_in n s.body.entries) (inside_own inside)) none)
 
   at_file_scope : s.in_body ≡ false → b.path ≡ []
@@ -317,15 +321,20 @@ module _ (s : Scopes) (b : Bindings) (function : Bool) (word : Option Storage) (
   same_or_other : (n : List ℕ) → ((name ≡ n) ⊎ (bytes_eq name n ≡ false))
   same_or_other n = elim (bool_cases (bytes_eq name n)) [ inl same ↦ inl (bytes_eq-true name n same) | inr other ↦ inr other ]
 
-  denoted : (first : Entry) → is_file_scope b.path ≡ true → first_linked name (b.entries ++ entry_at b function word name token ∷ []) ≡ Some first → first.internal ≡ own.internal
-      → Some (record { token = first.token; linked = true; internal = first.internal }) ≡ Some (denotation (b.entries ++ entry_at b function word name token ∷ []) (entry_at b function word name token))
+  -- what a declaration of a first one denotes
+  abbrev by_first : Entry → Denotation
+  by_first first = record { token = first.token; function = first.function; linked = true; internal = first.internal; declares = true }
+
+  denoted : (first : Entry) → is_file_scope b.path ≡ true → first_linked name (b.entries ++ entry_at b function word name token ∷ []) ≡ Some first → (first.function ≡ function) × (first.internal ≡ own.internal)
+      → Some (by_first first) ≡ Some (denotation (b.entries ++ entry_at b function word name token ∷ []) (entry_at b function word name token) true)
   denoted first p found same =
-      ap (λ i. Some (record { token = first.token; linked = true; internal = i })) same
-      ∙ sym (ap (λ x. Some (record { token = if x then token_or token (first_linked name (b.entries ++ entry_at b function word name token ∷ [])) else token; linked = x; internal = own.internal })) p
-      ∙ ap (λ o. Some (record { token = token_or token o; linked = true; internal = own.internal })) found)
+      ap (λ k. Some (record { token = first.token; function = k; linked = true; internal = first.internal; declares = true })) same.0
+      ∙ ap (λ i. Some (record { token = first.token; function = function; linked = true; internal = i; declares = true })) same.1
+      ∙ sym (ap (λ x. Some (record { token = if x then token_or token (first_linked name (b.entries ++ entry_at b function word name token ∷ [])) else token; function = function; linked = x; internal = own.internal; declares = true })) p
+      ∙ ap (λ o. Some (record { token = token_or token o; function = function; linked = true; internal = own.internal; declares = true })) found)
 
   again_at : (first : Symbol) (y : Entry) (same : Bool) → s.in_body ≡ false → first_linked name b.entries ≡ Some y → first ≡ symbol_of y → (both_or_neither first.function function && both_or_neither first.internal own.internal) ≡ same
-      → Answers s (declared b (entry_at b function word name token)) (if same then Some (answer first true) else None)
+      → Answers s (declared b (entry_at b function word name token)) (if same then Some (answer first true true) else None)
   again_at first y true outside f is agree =
       let path = at_file_scope outside in
       let p : is_file_scope b.path ≡ true = ap is_file_scope path in
@@ -335,13 +344,13 @@ module _ (s : Scopes) (b : Bindings) (function : Bool) (word : Option Storage) (
       let kinds : list_any (other_kind function own.internal name) b.entries ≡ false =
       subst (λ x. list_any (other_kind x own.internal name) b.entries ≡ false) alike (subst (λ x. list_any (other_kind y.function x name) b.entries ≡ false) linkage (h.one_kind name y f)) in
       let known : first_linked name (b.entries ++ entry_at b function word name token ∷ []) ≡ Some y = first-known b.entries (entry_at b function word name token) y name f in
-      added s b (entry_at b function word name token) (answer first true)
+      added s b (entry_at b function word name token) (answer first true true)
       (file_clashes b.entries b.next (entry_at b function word name token) h.opened path p ∙ kinds)
       (file_grown s y outside outside known (alike, linkage) (λ n. h.file n ∙ ap (option_map symbol_of) (elim (same_or_other n) [
         | inl same ↦ subst (λ m. first_linked m b.entries ≡ first_linked m (b.entries ++ entry_at b function word name token ∷ [])) same (f ∙ sym known)
         | inr other ↦ sym (first-other b.entries (entry_at b function word name token) n other)
       ])) kinds)
-      (ap (λ (z : Symbol). Some (record { token = z.token; linked = true; internal = z.internal })) is ∙ denoted y p known linkage)
+      (ap (λ (z : Symbol). Some (record { token = z.token; function = z.function; linked = true; internal = z.internal; declares = true })) is ∙ denoted y p known (alike, linkage))
   again_at first y false outside f is agree =
       let path = at_file_scope outside in
       let p : is_file_scope b.path ≡ true = ap is_file_scope path in
@@ -363,7 +372,7 @@ module _ (s : Scopes) (b : Bindings) (function : Bool) (word : Option Storage) (
       one : is_internal_symbol (option_map symbol_of (first_linked name b.entries)) ≡ is_seen_internal (last_in [] name b.entries)
       one = elim (file_mention b.entries b.next name h.opened) [
         | inl none ↦ ap (λ o. is_internal_symbol (option_map symbol_of o)) none.1 ∙ sym (ap is_seen_internal none.0)
-        | inr some ↦ ap (λ o. is_internal_symbol (option_map symbol_of o)) some.3 ∙ same_linkage b.entries b.next name some.0 some.1 h.opened h.one_kind some.2 some.3 ∙ sym (ap is_seen_internal some.2)
+        | inr some ↦ ap (λ o. is_internal_symbol (option_map symbol_of o)) some.3 ∙ (same_kind b.entries b.next name some.0 some.1 h.opened h.one_kind some.2 some.3).1 ∙ sym (ap is_seen_internal some.2)
       ]
 
   pub again_in_file : s.in_body ≡ false → (first : Symbol) (internal : Bool) → symbol_in name s.file.entries ≡ Some first → internal ≡ own.internal → Answers s (declared b (entry_at b function word name token)) (again_answer first function internal)
@@ -375,21 +384,21 @@ module _ (s : Scopes) (b : Bindings) (function : Bool) (word : Option Storage) (
 
   pub declared_in_file : (grown : Scopes) (symbol : Symbol) → symbol ≡ own → s.in_body ≡ false → grown.in_body ≡ false
       → Inserts name symbol s.file.entries grown.file.entries → symbol_in name s.file.entries ≡ None
-      → Answers grown (declared b (entry_at b function word name token)) (Some (answer symbol true))
+      → Answers grown (declared b (entry_at b function word name token)) (Some (answer symbol true true))
   declared_in_file grown symbol is outside outside' inserts none =
       let path = at_file_scope outside in
       let p : is_file_scope b.path ≡ true = ap is_file_scope path in
       let free : first_linked name b.entries ≡ None = map-None (first_linked name b.entries) (sym (h.file name) ∙ none) in
       let new : first_linked name (b.entries ++ entry_at b function word name token ∷ []) ≡ Some (entry_at b function word name token) = first-new b.entries (entry_at b function word name token) p free in
       let kinds : list_any (other_kind function own.internal name) b.entries ≡ false = list_any-none (is_linked name) (other_kind function own.internal name) b.entries (λ x t. (both (is_linked name x) (not (both_or_neither function x.function && both_or_neither own.internal x.internal)) t).0) (find-None (is_linked name) b.entries free) in
-      added grown b (entry_at b function word name token) (answer symbol true)
+      added grown b (entry_at b function word name token) (answer symbol true true)
       (file_clashes b.entries b.next (entry_at b function word name token) h.opened path p ∙ kinds)
       (file_grown grown (entry_at b function word name token) outside outside' new (refl, refl) (λ n. inserts n ∙ ap (λ (z : Symbol). if bytes_eq name n then Some z else symbol_in n s.file.entries) is ∙ elim (same_or_other n) [
         | inl same ↦ subst (λ m. (if bytes_eq name m then Some own else symbol_in m s.file.entries) ≡ option_map symbol_of (first_linked m (b.entries ++ entry_at b function word name token ∷ []))) same
             (ap (λ x. if x then Some own else symbol_in name s.file.entries) (bytes_eq-refl name) ∙ sym (ap (option_map symbol_of) new))
         | inr other ↦ ap (λ x. if x then Some own else symbol_in n s.file.entries) other ∙ h.file n ∙ sym (ap (option_map symbol_of) (first-other b.entries (entry_at b function word name token) n other))
       ]) kinds)
-      (ap (λ (z : Symbol). Some (record { token = z.token; linked = true; internal = z.internal })) is ∙ denoted (entry_at b function word name token) p new refl)
+      (ap (λ (z : Symbol). Some (record { token = z.token; function = z.function; linked = true; internal = z.internal; declares = true })) is ∙ denoted (entry_at b function word name token) p new (refl, refl))
 
 -- a body is opened at file scope, with no names of its own yet
 pub opened_body : (s grown : Scopes) (b : Bindings) → Holds s b → s.in_body ≡ false → grown.in_body ≡ true → grown.file.entries ≡ s.file.entries → grown.body.entries ≡ []

@@ -99,7 +99,7 @@ module _ (text_at : ℕ → List ℕ) where
       grown : All IsNamed (b.entries ++ e ∷ [])
       grown = All-push IsNamed b.entries e all own
 
-      by : (x : Bool) → BoundNamed e.name (if x then None else Some (record { after = record { entries = b.entries ++ e ∷ []; path = b.path; next = b.next }; denotes = Some (denotation (b.entries ++ e ∷ []) e) }))
+      by : (x : Bool) → BoundNamed e.name (if x then None else Some (record { after = record { entries = b.entries ++ e ∷ []; path = b.path; next = b.next }; denotes = Some (denotation (b.entries ++ e ∷ []) e true) }))
       by true = tt
       by false = (grown, entity-named (b.entries ++ e ∷ []) e grown own)
 

@@ -168,8 +168,8 @@ module _ (f : ℕ → List ℕ) (entity : ℕ) (new : List ℕ) where
           ap (token_or e.token) (find-map (is_linked e.name) (is_linked (rename es e).name) (rename es) es (All-map (IsKnown es) (λ y. is_linked (rename es e).name (rename es y) ≡ is_linked e.name y) es (λ y l. linked-kept es e all k x y l) all))
           ∙ tokens (first_linked e.name es)
 
-  denotation-kept : (es : List Entry) (e : Entry) → All (IsKnown es) es → IsKnown es e → denotation (map (rename es) es) (rename es e) ≡ denotation es e
-  denotation-kept es e all k = ap {B = Denotation} (λ t. record { token = t; linked = e.linked; internal = e.internal }) (entity-kept es e all k)
+  denotation-kept : (es : List Entry) (e : Entry) → All (IsKnown es) es → IsKnown es e → (declares : Bool) → denotation (map (rename es) es) (rename es e) declares ≡ denotation es e declares
+  denotation-kept es e all k declares = ap {B = Denotation} (λ t. record { token = t; function = e.function; linked = e.linked; internal = e.internal; declares = declares }) (entity-kept es e all k)
 
   -- one declaration more leaves the entities of the others
   some-push : (es : List Entry) (new_one : Entry) (name : List ℕ) → is_some (first_linked name es) ≡ true → first_linked name (es ++ new_one ∷ []) ≡ first_linked name es
@@ -228,7 +228,7 @@ module _ (f : ℕ → List ℕ) (entity : ℕ) (new : List ℕ) where
       let own : c ≡ true → f entity ≡ text = λ g. named b.entries e all k.0 g ∙ k.1 in
       let a = All-map (IsKnown b.entries) (IsApart (rename b.entries) text (if c then new else text)) b.entries (λ y l. apart b.entries text c all fresh own y l) all in
       let found = lookup-some (rename b.entries) b.path text (if c then new else text) b.entries e a h (ap (λ m. if c then new else m) k.1) in
-      (ap (mentioned (renamed b)) found ∙ ap (λ d. Some (record { after = renamed b; denotes = Some d })) (denotation-kept b.entries e all k.0), all)
+      (ap (mentioned (renamed b)) found ∙ ap (λ d. Some (record { after = renamed b; denotes = Some d })) (denotation-kept b.entries e all k.0 false), all)
 
   clash-apart : (b : Bindings) (e : Entry) (es : List Entry) (y : Entry) → IsApart (rename b.entries) e.name (rename es e).name y
       → clashes (rename es e) (rename b.entries y) ≡ true → clashes e y ≡ true
@@ -279,8 +279,8 @@ module _ (f : ℕ → List ℕ) (entity : ℕ) (new : List ℕ) where
       by (scope ∷ out) h = refl
 
   declared-free : (b : Bindings) (e : Entry) → is_redeclared b.entries e ≡ false
-      → declared b e ≡ Some (record { after = record { entries = b.entries ++ e ∷ []; path = b.path; next = b.next }; denotes = Some (denotation (b.entries ++ e ∷ []) e) })
-  declared-free b e free = ap (λ x. if x then None else Some (record { after = record { entries = b.entries ++ e ∷ []; path = b.path; next = b.next }; denotes = Some (denotation (b.entries ++ e ∷ []) e) })) free
+      → declared b e ≡ Some (record { after = record { entries = b.entries ++ e ∷ []; path = b.path; next = b.next }; denotes = Some (denotation (b.entries ++ e ∷ []) e true) })
+  declared-free b e free = ap (λ x. if x then None else Some (record { after = record { entries = b.entries ++ e ∷ []; path = b.path; next = b.next }; denotes = Some (denotation (b.entries ++ e ∷ []) e true) })) free
 
   abbrev FollowsDeclared : Bindings → ℕ → List ℕ → Bool → Option Storage → Option Bound → Type 0
   FollowsDeclared b n text function word None = Unit {0}
@@ -289,7 +289,7 @@ module _ (f : ℕ → List ℕ) (entity : ℕ) (new : List ℕ) where
 
   declare-follows : (b : Bindings) (n : ℕ) (text : List ℕ) (function : Bool) (word : Option Storage) → All (IsKnown b.entries) b.entries → IsFresh text → f n ≡ text
       → (x : Bool) → is_redeclared b.entries (entry_at b function word text n) ≡ x
-      → (d : Bound) → (if x then None else Some (record { after = record { entries = b.entries ++ entry_at b function word text n ∷ []; path = b.path; next = b.next }; denotes = Some (denotation (b.entries ++ entry_at b function word text n ∷ []) (entry_at b function word text n)) })) ≡ Some d
+      → (d : Bound) → (if x then None else Some (record { after = record { entries = b.entries ++ entry_at b function word text n ∷ []; path = b.path; next = b.next }; denotes = Some (denotation (b.entries ++ entry_at b function word text n ∷ []) (entry_at b function word text n) true) })) ≡ Some d
       → (declared (renamed b) (entry_at (renamed b) function word (text_behind text d.denotes) n) ≡ Some (record { after = renamed d.after; denotes = d.denotes })) × All (IsKnown d.after.entries) d.after.entries
   declare-follows b n text function word all fresh own true r d h = let bad : ⊥ = cc in absurd bad
   declare-follows b n text function word all fresh own false r d h =
@@ -304,12 +304,12 @@ module _ (f : ℕ → List ℕ) (entity : ℕ) (new : List ℕ) where
       let free : is_redeclared (map (rename b.entries) b.entries) (rename es e) ≡ false =
       list_any-map-none (clashes e) (clashes (rename es e)) (rename b.entries) b.entries a r in
       let grown : map (rename b.entries) b.entries ++ rename es e ∷ [] ≡ map (rename es) es = sym (renamed-push b.entries e all) in
-      let same : (record { after = record { entries = es; path = b.path; next = b.next }; denotes = Some (denotation es e) }) ≡ d = cc in
+      let same : (record { after = record { entries = es; path = b.path; next = b.next }; denotes = Some (denotation es e true) }) ≡ d = cc in
       subst (λ d. (declared (renamed b) (entry_at (renamed b) function word (text_behind text d.denotes) n) ≡ Some (record { after = renamed d.after; denotes = d.denotes })) × All (IsKnown d.after.entries) d.after.entries) same (
         ap (declared (renamed b)) (declares-renamed b n text function word all known k)
             ∙ declared-free (renamed b) (rename es e) free
-            ∙ ap (λ l. Some (record { after = record { entries = l; path = b.path; next = b.next }; denotes = Some (denotation l (rename es e)) })) grown
-            ∙ ap (λ x. Some (record { after = record { entries = map (rename es) es; path = b.path; next = b.next }; denotes = Some x })) (denotation-kept es e known k),
+            ∙ ap (λ l. Some (record { after = record { entries = l; path = b.path; next = b.next }; denotes = Some (denotation l (rename es e) true) })) grown
+            ∙ ap (λ x. Some (record { after = record { entries = map (rename es) es; path = b.path; next = b.next }; denotes = Some x })) (denotation-kept es e known k true),
         known,
       )
 

@@ -56,17 +56,17 @@ pub record Holds (s : Scopes) (b : Bindings) : Type 0 where
   pub opened : AllOpened b.next b.entries
   pub one_kind : IsOneKind b.entries
 
-abbrev pub answer : Symbol → Bool → Binding
-answer symbol linked = record { denotes = Some (record { token = symbol.token; linked = linked; internal = symbol.internal }) }
+abbrev pub answer : Symbol → Bool → Bool → Binding
+answer symbol linked declares = record { denotes = Some (record { token = symbol.token; function = symbol.function; linked = linked; internal = symbol.internal; declares = declares }) }
 
 abbrev pub linked_answer : Option Symbol → Option Binding
 linked_answer None = None
-linked_answer (Some symbol) = Some (answer symbol true)
+linked_answer (Some symbol) = Some (answer symbol true false)
 
 -- one more declaration of a name at file scope
 abbrev pub again_answer : Symbol → Bool → Bool → Option Binding
 again_answer first function internal =
-    if both_or_neither first.function function && both_or_neither first.internal internal then Some (answer first true) else None
+    if both_or_neither first.function function && both_or_neither first.internal internal then Some (answer first true true) else None
 
 -- the symbol that is seen has internal linkage
 abbrev pub is_internal_symbol : Option Symbol → Bool

@@ -32,6 +32,13 @@ NamesItsKey =
     (bytes name : List ℕ) (denotes : List (Option Denotation)) (offset : ℕ) (target : Target) → IsSmallForm (lexed bytes) denotes
     → target_at offset (lexed bytes).tokens denotes ≡ Some target → target.key ≡ external name → name ≡ target.name
 
+-- Each token that denotes an entity is a name, and it is that of the entity.
+abbrev pub HaveOneName : Type 0
+HaveOneName =
+    (bytes name : List ℕ) (key : Key) (denotes : List (Option Denotation)) → IsSmallForm (lexed bytes) denotes → IsNameOf name key (lexed bytes).tokens denotes
+    → (i : ℕ) (t : Token) (d : Denotation) → slice_get (lexed bytes).tokens i ≡ Some t → slice_get denotes i ≡ Some (Some d) → key_of (lexed bytes).tokens d ≡ Some key
+    → (t.text ≡ name) × (is_name name ≡ true)
+
 -- Of each text it is decided what its tokens denote, or that it isn't of the small form.
 abbrev pub Decided : Type 0
 Decided = (meaning : Lexed → Option (List (Option Denotation))) × ((text : Lexed) → Resolves text (meaning text))

@@ -33,9 +33,15 @@ abbrev pub around : List ℕ → List ℕ
 around [] = []
 around (scope ∷ rest) = rest
 
--- the entity of an entry
-abbrev pub denotation : List Entry → Entry → Denotation
-denotation entries entry = record { token = entity_of entries entry; linked = entry.linked; internal = entry.internal }
+-- the entity of an entry, and whether the token declares it
+abbrev pub denotation : List Entry → Entry → Bool → Denotation
+denotation entries entry declares = record {
+  token = entity_of entries entry;
+  function = entry.function;
+  linked = entry.linked;
+  internal = entry.internal;
+  declares = declares;
+}
 
 abbrev pub unchanged : Bindings → Option Bound
 unchanged b = Some (record { after = b; denotes = None })
@@ -57,13 +63,13 @@ declared b entry =
     if is_redeclared b.entries entry then None
     else Some (record {
       after = record { entries = b.entries ++ entry ∷ []; path = b.path; next = b.next };
-      denotes = Some (denotation (b.entries ++ entry ∷ []) entry);
+      denotes = Some (denotation (b.entries ++ entry ∷ []) entry true);
     })
 
 -- a mention must see a declaration before it
 abbrev pub mentioned : Bindings → Option Entry → Option Bound
 mentioned b None = None
-mentioned b (Some entry) = Some (record { after = b; denotes = Some (denotation b.entries entry) })
+mentioned b (Some entry) = Some (record { after = b; denotes = Some (denotation b.entries entry false) })
 
 -- one token of this number and name, by what it does
 abbrev pub bound : Bindings → ℕ → List ℕ → Part → Option Bound

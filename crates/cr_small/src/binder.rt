@@ -15,13 +15,16 @@ use crate::terminal::has_plain_names;
 use cr_base::{NameTable, OutOfMemory, PpTok};
 use std::alloc::Global;
 
-/// The entity that a token denotes: the number of its first declaring token, whether it has linkage,
-/// and whether that is internal, and else external (C11 6.2.2).
+/// The entity that a token denotes: the number of its first declaring token, whether it is a function,
+/// and else an object, whether it has linkage, and whether that is internal, and else external
+/// (C11 6.2.2); and whether the token declares it, and else mentions it.
 #[derive(Clone, Copy, Debug, PartialEq, Eq)]
 pub struct Denotation {
     pub token: usize,
+    pub function: bool,
     pub linked: bool,
     pub internal: bool,
+    pub declares: bool,
 }
 
 /// The entity that one token denotes, if it is an identifier that denotes one.

@@ -1,6 +1,6 @@
 //! Laws of the small form. These functions do nothing: their contracts are the laws.
 ghost use Rattle.cr_small.specs.SmallForm.{DenotesOne};
-ghost use Rattle.cr_small.specs.Laws.{PlacesRise, HasPlace, NamesItsKey, Decided, RenamingKeepsMeaning, KeysMove};
+ghost use Rattle.cr_small.specs.Laws.{PlacesRise, HasPlace, NamesItsKey, HaveOneName, Decided, RenamingKeepsMeaning, KeysMove};
 
 use cr_lex::{renaming_keeps_lexing, tokens_stand_in_order};
 
@@ -19,6 +19,13 @@ pub fn a_target_has_a_place()
 /// What stands at an offset, and has external linkage, has the name of its key.
 pub fn a_target_names_its_key()
     ensures { NamesItsKey }
+{
+    tokens_stand_in_order();
+}
+
+/// Each token that denotes an entity is spelled as the entity's name.
+pub fn entities_have_one_name()
+    ensures { HaveOneName }
 {
     tokens_stand_in_order();
 }

@@ -14,8 +14,8 @@ mod text;
 
 pub use binder::Denotation;
 pub use laws::{
-    a_target_has_a_place, a_target_names_its_key, denotations_are_one, every_text_is_decided,
-    keys_move, places_rise, renaming_keeps_the_meaning,
+    a_target_has_a_place, a_target_names_its_key, denotations_are_one, entities_have_one_name,
+    every_text_is_decided, keys_move, places_rise, renaming_keeps_the_meaning,
 };
 pub use renaming::{EntityKey, Target};
 pub use text::SmallText;

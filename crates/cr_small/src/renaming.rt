@@ -19,7 +19,7 @@ use std::alloc::Global;
 #[derive(Clone, Copy)]
 pub enum EntityKey<'a> {
     External(&'a [u8]),
-    At(usize),
+    At(u32),
 }
 
 /// A name of a text, the key of the entity that it denotes, and whether that is declared at file scope.
@@ -42,15 +42,19 @@ impl<'a> EntityKey<'a> {
     }
 }
 
-// The key of what a token denotes.
-fn key_of<'a>(names: &'a NameTable, tokens: &[PpTok], denoted: Denotation) -> Option<EntityKey<'a>>
+/// The key of what a token denotes.
+pub fn key_of<'a>(
+    names: &'a NameTable,
+    tokens: &[PpTok],
+    denoted: Denotation,
+) -> Option<EntityKey<'a>>
     ensures { option_map key_of_code result ≡ key_of (map (seen names.now) tokens.now) denoted }
 {
     let first = tokens.get(denoted.token)?;
     Some(if denoted.linked && !denoted.internal {
         EntityKey::External(spelling(names, first.text))
     } else {
-        EntityKey::At(first.site.offset as usize)
+        EntityKey::At(first.site.offset)
     })
 }
 

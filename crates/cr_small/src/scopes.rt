@@ -28,14 +28,17 @@ pub struct Scopes<'a> {
     pub in_body: bool,
 }
 
-fn answer(symbol: Symbol, linked: bool) -> Binding
-    ensures { result ≡ answer symbol linked }
+// The entity of a symbol, and whether the token declares it.
+fn answer(symbol: Symbol, linked: bool, declares: bool) -> Binding
+    ensures { result ≡ answer symbol linked declares }
 {
     Binding {
         denotes: Some(Denotation {
             token: symbol.token,
+            function: symbol.function,
             linked,
             internal: symbol.internal,
+            declares,
         }),
     }
 }
@@ -51,7 +54,7 @@ fn again(first: Symbol, function: bool, internal: bool) -> Option<Binding>
     ensures { result ≡ again_answer first function internal }
 {
     if first.function == function && first.internal == internal {
-        Some(answer(first, true))
+        Some(answer(first, true, true))
     } else {
         None
     }
@@ -143,7 +146,7 @@ impl<'a> Scopes<'a> {
             internal: false,
         };
         self.body.insert(name, symbol)?;
-        Ok(Some(answer(symbol, false)))
+        Ok(Some(answer(symbol, false, true)))
     }
 
     fn declare_in_file(
@@ -168,7 +171,7 @@ impl<'a> Scopes<'a> {
                     internal,
                 };
                 self.file.insert(name, symbol)?;
-                Ok(Some(answer(symbol, true)))
+                Ok(Some(answer(symbol, true, true)))
             }
         }
     }
@@ -188,14 +191,14 @@ impl<'a> Scopes<'a> {
         ensures { result ≡ linked_answer (symbol_in name.now self.now.file.entries) }
     {
         let symbol = symbol_in(&self.file, name)?;
-        Some(answer(symbol, true))
+        Some(answer(symbol, true, false))
     }
 
     fn mention(&self, name: &[u8]) -> Option<Binding>
         ensures { (b : Bindings) → Holds self.now b → Answers self.now (mentioned b (lookup b.entries name.now b.path)) result }
     {
         match self.in_open_body(name) {
-            Some(symbol) => Some(answer(symbol, false)),
+            Some(symbol) => Some(answer(symbol, false, false)),
             None => self.mention_file(name),
         }
     }

@@ -1,12 +1,16 @@
 //! Texts of the small form.
-ghost use Rattle.std.specs.Prelude.{◌≡◌, ◌≤◌, ℕ, List as ListOf, length, IfOk};
+ghost use Rattle.std.specs.Prelude.{◌≡◌, ◌≤◌, ℕ, List as ListOf, [], length, slice_index_or, IfOk};
 ghost use Rattle.std.specs.Option.{option_map};
+ghost use Rattle.cr_small.specs.Keys as keys;
 ghost use Rattle.cr_small.specs.Renaming as renaming;
 ghost use Rattle.cr_small.specs.Seen.{tokens_of, key_of_code, target_of_code};
 ghost use Rattle.cr_small.specs.Texts.{IsTextOf, Reads};
 
 use crate::binder::{Denotation, resolve};
-use crate::renaming::{EntityKey, Target, first_unspellable, has_text, places_of, target_at};
+use crate::renaming::{
+    EntityKey, Target, first_unspellable, has_text, key_of, places_of, target_at,
+};
+use crate::spelling::spelling;
 use cr_base::{List, NameTable, OutOfMemory, PathNo, PpTok};
 use cr_lex::lex;
 use std::alloc::Global;
@@ -46,6 +50,20 @@ impl SmallText {
         ensures { result ≡ renaming.has_text text.now (tokens_of self.now) }
     {
         has_text(&self.names, self.tokens.items(), text)
+    }
+
+    /// The spelling of one of the text's tokens.
+    pub fn spelling(&self, token: &PpTok) -> &[u8]
+        ensures { result.now ≡ slice_index_or self.now.names token.now.text.0 [] }
+    {
+        spelling(&self.names, token.text)
+    }
+
+    /// The key of what one of the text's tokens denotes.
+    pub fn key_of(&self, denoted: Denotation) -> Option<EntityKey<'_>>
+        ensures { option_map key_of_code result ≡ keys.key_of (tokens_of self.now) denoted }
+    {
+        key_of(&self.names, self.tokens.items(), denoted)
     }
 
     /// What stands at an offset, if a name does. The offset is in bytes from 0.

@@ -1,7 +1,8 @@
-use Rattle.std.proofs.Common.{subst, sym}
-use Rattle.cr_run.specs.Editing.{AllRise}
-use Rattle.cr_run.proofs.Lookups.{rises_more}
+use Rattle.cr_run.specs.Table.{RisesIn}
+use Rattle.cr_run.proofs.Tables.{table_more}
 use Rattle.cr_run.proofs.survey.Survey.add.Goals as goal
 
-pub returns-clause-rises : goal.returns-clause-rises
-returns-clause-rises c old one all = subst (AllRise old) (sym c.in_ok-insert.ensures.entries) (rises_more old c.args.path c.args.found c.args.self.now.files.entries one all)
+pub returns-clause-placed : goal.returns-clause-placed
+returns-clause-placed c old key next one table =
+    table_more c.facts_are_ordered.ensures (RisesIn old) key c.args.self.now (record { files = c.insert.new.self; last = c.args.number; facts = c.union.new.self; total = c.saturating_add-total.result })
+    c.args.path c.args.found table one c.in_ok-insert.ensures.entries next c.in_ok-union.ensures.ok

@@ -17,5 +17,5 @@ returns-clause-met g c meaning files done is told h =
     let size : length c.args.unit.now.words ≤ 16777216 = omega (arith, ap length c.bytes.ensures, c.if-bytes-gt-MAX_FILE.false) in
     let short : is_too_long (length c.args.unit.now.words) ≡ false = grind (arith, nat_tests) in
     let fresh = known_if meaning files (wanted_of c.args.sought.now) done c.args.unit.now c.args.self.now h false (sym c.if-contains_key.false ∙ c.contains_key.ensures) in
-    met_new meaning files (wanted_of c.args.sought.now) done c.args.unit.now c.args.self.now h c.read_file.new.self c.read_file.result short fresh
+    met_new meaning files (wanted_of c.args.sought.now) done c.args.unit.now c.args.self.now h c.facts_are_ordered.ensures c.read_file.new.self c.read_file.result short fresh
     (c.read_file.ensures.added meaning files is told (apart_source c.args.sought.now.source.now done c.args.unit.now.main fresh))

@@ -25,7 +25,7 @@ loop-unit-preserved g c =
       λ meaning files done is told h.
           subst (λ us. Holds meaning files (wanted_of c.args.sought.now) us c.meet.new.self) (taken_on done c.args.batch.now c.loop-unit.unit-index c.unit-item.result at)
           (c.in_ok-meet.ensures.met meaning files (done ++ take c.loop-unit.unit-index c.args.batch.now) is (c.loop-unit.invariant.0.same ∙ told) (c.loop-unit.invariant.1 meaning files done is told h)),
-      λ all. c.in_ok-meet.ensures.rises (c.loop-unit.invariant.2 all),
+      λ all. c.in_ok-meet.ensures.placed (c.loop-unit.invariant.2 all),
     )
 
 pub returns-clause-met : goal.returns-clause-met

@@ -54,7 +54,7 @@ loop-n-preserved g c = (
         subst (λ us. Holds meaning files wanted us c.read_batch.new.self) (up_to meaning files wanted c.args.units.now c.loop-n.n ∙ ap (λ k. take k c.args.units.now) next) met,
         subst (λ k. refusal_below (refusal_of_batch meaning files wanted.source wanted.new c.args.units.now) k ≡ None) one (none_yet meaning files wanted c.args.units.now c.loop-n.n c.read_batch.new.self inv.1 met none),
       ),
-  λ all. c.in_ok-read_batch.ensures.rises (c.loop-n.invariant.2 all),
+  λ all. c.in_ok-read_batch.ensures.placed (c.loop-n.invariant.2 all),
 )
 
 pub returns-clause-surveyed : goal.returns-clause-surveyed

@@ -2,8 +2,7 @@ use Rattle.std.proofs.Common.{◌≡◌, [], Some, None, take, ◌*◌}
 use Rattle.cr_world.specs.Outside.{Files}
 use Rattle.cr_run.specs.Survey.{Meaning, IsMeaning, refusal_below, refusal_of_batch}
 use Rattle.cr_run.specs.Reading.{ReadsOnly}
-use Rattle.cr_run.specs.Editing.{AllRise}
-use Rattle.cr_run.specs.Held.{wanted_of, Holds}
+use Rattle.cr_run.specs.Held.{wanted_of, IsPlaced, Holds}
 use Rattle.cr_run.proofs.survey.Survey.read_units.Given as goal
 
 abbrev pub invariant-loop-n : goal.invariant-loop-n
@@ -12,4 +11,4 @@ invariant-loop-n g l =
     × ((meaning : Meaning) (files : Files) → IsMeaning meaning → g.T.Tree.files l.fn.tree ≡ Some files → Holds meaning files (wanted_of l.sought) [] l.fn.self
     → Holds meaning files (wanted_of l.sought) (take (64 * l.n) l.units) l.self
     × (refusal_below (refusal_of_batch meaning files (wanted_of l.sought).source (wanted_of l.sought).new l.units) l.n ≡ None))
-    × (AllRise l.sought.old.now l.fn.self.files.entries → AllRise l.sought.old.now l.self.files.entries)
+    × (IsPlaced l.sought l.fn.self → IsPlaced l.sought l.self)

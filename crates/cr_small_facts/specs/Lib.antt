@@ -1,0 +1,4 @@
+pub mod Filing
+pub mod Laws
+pub mod Places
+pub mod TextFacts
