@@ -19,7 +19,10 @@ use Rattle.cr_expand.specs.Expanders.{runs_by, RunsOn}
 use Rattle.cr_expand.proofs.Sets.{grows_same}
 use Rattle.cr_expand.proofs.Kept.{named_later, tables_later, sets_named_later}
 use Rattle.cr_expand.proofs.Keeping.{slots_later, calls_later}
-use Rattle.cr_expand.proofs.Steps.{still_old, still_now, waiting_kept, front_kept, calls_held}
+use Rattle.cr_macros.specs.Expansion.{Table}
+use Rattle.cr_expand.specs.Running.{Waiting, Piece, goes_on}
+use Rattle.cr_expand.proofs.KeptMachine.{table_kept}
+use Rattle.cr_expand.proofs.Steps.{waiting_kept, front_kept, calls_held}
 use Rattle.cr_expand.proofs.Lefts.{depth_later, tokens_are_known, groups_later}
 
 module _ (names new : List Text) (g : Grows names new) where
@@ -53,12 +56,15 @@ module _ (names new : List Text) (g : Grows names new) where
   )
   runs_later macros m ahead (Some x) d known r = tt
 
+  same_answer : (t t2 : Table) (ws ws2 : List Waiting) (ps ps2 : List Piece) (left : ℕ) → t ≡ t2 → ws ≡ ws2 → ps ≡ ps2 → goes_on t ws ps left ≡ goes_on t2 ws2 ps2 left
+  same_answer t t2 ws ws2 ps ps2 left a b c = rw (a, b, c) refl
+
   still_later : (macros : Macros) (m : Machine) (more : List Token) → AreMacros names macros → IsMachine names macros m → still new macros m more ≡ still names macros m more
   still_later macros m more known mach =
-      still_now names new macros m m more mach known g (grows_same m.sets) refl _ _ (LIMIT - m.used)
+      same_answer _ _ _ _ _ _ (LIMIT - m.used)
+      (table_kept names new g macros m.file known mach.file)
       (waiting_kept names new macros m m more mach known g (grows_same m.sets) refl m.frames.items (calls_held names new macros m m more mach known g (grows_same m.sets) refl))
-      (front_kept names new macros m m more mach known g (grows_same m.sets) refl m.slots.items mach.slots) refl
-      ∙ sym (still_old names new macros m m more mach known g (grows_same m.sets) refl _ _ refl refl)
+      (front_kept names new macros m m more mach known g (grows_same m.sets) refl m.slots.items mach.slots)
 
   pub left_later : (macros : Macros) (e : Expander) (more : List Token) → AreMacros names macros → runs_by names macros e.machine e.ahead e.fault → e.fault ≡ None → still new macros e.machine more ≡ still names macros e.machine more
   left_later macros e more known r f = let x : runs_by names macros e.machine e.ahead None = subst (runs_by names macros e.machine e.ahead) f r in still_later macros e.machine more known x.0
