@@ -3,6 +3,7 @@ pub mod Cuts
 pub mod Entities
 pub mod Flat
 pub mod Keeping
+pub mod Lengths
 pub mod Links
 pub mod Maps
 pub mod Placed

@@ -5,6 +5,7 @@ pub mod Declarations
 pub mod Resolution
 pub mod SmallForm
 pub mod Keys
+pub mod Keywords
 pub mod Renaming
 pub mod KeepsMeaning
 pub mod Laws

@@ -3,6 +3,7 @@
 
 mod binder;
 mod grammar;
+mod keyword;
 mod laws;
 mod renaming;
 mod scopes;

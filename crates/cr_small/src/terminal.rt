@@ -5,8 +5,9 @@ ghost use Rattle.cr_base.specs.Names as names;
 ghost use Rattle.cr_small.specs.Terminals as terminals;
 ghost use Rattle.cr_lex.specs.Seen.{seen};
 
+use crate::keyword::is_keyword;
 use crate::spelling::spelling;
-use cr_base::{NameTable, PpTok, is_digit, is_identifier, is_keyword};
+use cr_base::{NameTable, PpTok, is_digit, is_identifier};
 
 /// What a token is in the grammar of the small form. `Other` is none of its terminals.
 #[derive(Clone, Copy, PartialEq, Eq)]

@@ -1,7 +1,8 @@
 //! Values from C11's rules on scope and linkage, counted by hand.
 use crate::{
     EntityKey, SmallText, a_target_has_a_place, a_target_names_its_key, denotations_are_one,
-    every_text_is_decided, keys_move, places_rise, renaming_keeps_the_meaning,
+    entities_have_one_name, every_text_is_decided, keys_move, places_rise,
+    renaming_keeps_the_meaning,
 };
 use cr_base::OutOfMemory;
 use std::alloc::Global;
@@ -59,6 +60,7 @@ fn the_laws_are_called(_rt: HostRuntime) -> Result<(), Fail> {
     a_target_has_a_place();
     a_target_names_its_key();
     denotations_are_one();
+    entities_have_one_name();
     every_text_is_decided();
     renaming_keeps_the_meaning();
     keys_move();
