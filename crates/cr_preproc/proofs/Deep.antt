@@ -73,11 +73,11 @@ name_within : (table : Table) (t : Token) (rest : List Token) (p : Option (PpKin
 name_within table t rest (Some p) = tt
 name_within table t rest None = macro_within t rest (table.macro t.text)
 
-use_within : (table : Table) (t : Token) (rest : List Token) → Within (length rest) (use_of table t rest)
+pub use_within : (table : Table) (t : Token) (rest : List Token) → Within (length rest) (use_of table t rest)
 use_within table t rest =
     within_if (length rest) (not (is_ident t.kind) || has t.hide t.text) Keep (use_of_name table t rest (predefined table.file t.line t.text)) tt (name_within table t rest (predefined table.file t.line t.text))
 
-behind_within : (rest : List Token) (u : Use) → Within (length rest) u → length (left_behind rest u) ≤ length rest
+pub behind_within : (rest : List Token) (u : Use) → Within (length rest) u → length (left_behind rest u) ≤ length rest
 behind_within rest Keep h = omega arith
 behind_within rest (Predefined kind text) h = omega arith
 behind_within rest (Object m) h = omega arith

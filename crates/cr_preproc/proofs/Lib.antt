@@ -10,4 +10,36 @@ pub mod Deep
 pub mod Frames
 pub mod Growing
 pub mod Snapshots
+pub mod PathLists
+pub mod TextsKept
+pub mod Progresses
+pub mod Notings
+pub mod Definings
+pub mod Givings
+pub mod NamesLater
+pub mod ReadingOn
+pub mod OpenSteps
+pub mod OpenedFiles
+pub mod NamesGrow
+pub mod OpenLater
 mod Rows
+mod RunsAhead
+mod Expandings
+pub mod Leadings
+mod UnitTurns
+mod UnitRuns
+mod FirstFiles
+mod FirstTurns
+mod DirectiveSteps
+mod ConditionalSteps
+pub mod ReadingKept
+pub mod LineTurns
+pub mod NextTurns
+pub mod Openings
+pub mod ListsLeft
+pub mod DecideTurns
+pub mod Turns
+pub mod IncludeTurns
+pub mod DirectiveTurns
+mod LineSplit
+mod UnitSteps

@@ -61,7 +61,7 @@ still_named names n o old new h k s = all_named names new (λ other some. go oth
   go other false f some = named_of names old k other some
 
 -- a text that isn't in the table is no macro's
-missing : (names : List Text) (t : Text) (macros : Macros) → list_any (bytes_eq t) names ≡ false → AreMacrosNamed names macros → lookup (λ k. bytes_eq t (text_of names k)) macros ≡ None
+pub missing : (names : List Text) (t : Text) (macros : Macros) → list_any (bytes_eq t) names ≡ false → AreMacrosNamed names macros → lookup (λ k. bytes_eq t (text_of names k)) macros ≡ None
 missing names t [] h k = refl
 missing names t (e ∷ macros) h k =
     ap (λ b. cond b (Some e.1) (lookup (λ name. bytes_eq t (text_of names name)) macros)) (not_at names e.0.0 h k.0) ∙ missing names t macros h k.1 where
@@ -79,7 +79,7 @@ missing names t (e ∷ macros) h k =
       not_at (a ∷ texts) (suc i) x l = not_at texts i (or_right (bytes_eq t a) (list_any (bytes_eq t) texts) x) (omega arith)
 
 -- a text that is in the table is that of a number
-found_at : (texts : List Text) (t : Text) → list_any (bytes_eq t) texts ≡ true → (i : ℕ) × (i < length texts) × (slice_index_or texts i [] ≡ t)
+pub found_at : (texts : List Text) (t : Text) → list_any (bytes_eq t) texts ≡ true → (i : ℕ) × (i < length texts) × (slice_index_or texts i [] ≡ t)
 found_at [] t h = absurd (true≢false (sym h))
 found_at (a ∷ texts) t h = go (bytes_eq t a) refl h (found_at texts t) where
   go : (b : Bool) → bytes_eq t a ≡ b → (b || list_any (bytes_eq t) texts) ≡ true → (list_any (bytes_eq t) texts ≡ true → (i : ℕ) × (i < length texts) × (slice_index_or texts i [] ≡ t)) → (i : ℕ) × (i < length (a ∷ texts)) × (slice_index_or (a ∷ texts) i [] ≡ t)

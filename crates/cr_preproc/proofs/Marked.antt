@@ -41,11 +41,11 @@ has_some names (p ∷ ps) v word =
     ∙ ap (λ b. bytes_eq (text_of names p) word || b) (has_some names ps v word)
     ∙ sym (index_step (bytes_eq (text_of names p) word) (index_of (named_params v (Some (map (text_of names) ps))) word))
 
-told : (old new : Text) (es : List Telling) → all_events_seen old new (map Told es) ≡ flat_map (seen_telling old new) es
+pub told : (old new : Text) (es : List Telling) → all_events_seen old new (map Told es) ≡ flat_map (seen_telling old new) es
 told old new [] = refl
 told old new (e ∷ es) = ap (λ l. seen_telling old new e ++ l) (told old new es)
 
-all_told : (old new : Text) (role1 : Role) (ts : List Token) → all_events_seen old new (all_marks role1 ts) ≡ all_seen_as old new role1 ts
+pub all_told : (old new : Text) (role1 : Role) (ts : List Token) → all_events_seen old new (all_marks role1 ts) ≡ all_seen_as old new role1 ts
 all_told old new role1 [] = refl
 all_told old new role1 (t ∷ ts) =
     flat_map-append (seen_of old new) (marks role1 t) (all_marks role1 ts)

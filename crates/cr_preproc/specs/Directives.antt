@@ -1,6 +1,7 @@
 -- Directives that aren't conditional (C11 6.10.2 to 6.10.7).
 use Rattle.std.specs.Prelude.{◌-◌, Bool, true, false, ◌&&◌, ◌||◌, if◌then◌else◌, List, [], ◌∷◌, ◌++◌, flat_map, length, take, drop, bytes_eq, codes, Option, Some, None, is_some}
 use Rattle.std.specs.Option.{option_map}
+use Rattle.cr_base.specs.NameTable.{with_text}
 use Rattle.cr_base.specs.declared.token.PpKind.{PpKind}
 use Rattle.cr_base.specs.declared.token.PpKind.TheVariants.{Str}
 use Rattle.cr_base.specs.declared.token.Place.{Place}
@@ -127,7 +128,7 @@ begins_with_once (t ∷ ts) = is_ident t.kind && bytes_eq t.text (codes "once")
 
 -- C11 6.10.6; `once` is an own rule of this project
 abbrev pub pragma : Text → List Token → Task Nothing
-pragma path ts = if begins_with_once ts then change (λ s. record s { once = path ∷ s.once }) else tell (all_marks Opaque ts)
+pragma path ts = if begins_with_once ts then change (λ s. record s { once = with_text s.once path }) else tell (all_marks Opaque ts)
 
 -- a directive that defines nothing
 abbrev pub plain_directive : World → Unit → Opening → Text → Place → Text → List Token → Task Nothing

@@ -14,3 +14,12 @@ pub mod Traces
 pub mod Words
 pub mod Truths
 pub mod Frames
+pub mod Progressing
+pub mod OpenFiles
+pub mod Expanding
+pub mod Leading
+pub mod Turning
+pub mod OpenFileSteps
+pub mod Preprocs
+pub mod RunTurns
+pub mod LineParts

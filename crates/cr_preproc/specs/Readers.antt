@@ -9,6 +9,8 @@ use Rattle.cr_lex.specs.declared.fault.LexStep.{LexStep}
 use Rattle.cr_lex.specs.declared.fault.LexStep.TheVariants as step
 use Rattle.cr_macros.specs.Tokens.{Text}
 use Rattle.cr_preproc.specs.declared.reader.Reader.{Reader}
+use Rattle.cr_preproc.specs.declared.reader.Coming.{Coming}
+use Rattle.cr_preproc.specs.declared.reader.Coming.TheVariants as coming
 
 -- what comes next, before what the lexer has left
 abbrev pub before : List Text → Lexed → LexStep → Lexed
@@ -31,6 +33,12 @@ pub record IsReading (names : List Text) (bytes : Text) (r : Reader) : Type 0 wh
   pub file : r.lexer.file ≡ r.file
   pub next : IsNext r.file names (left bytes r.lexer) r.ahead
 
+-- What comes is the first of what the reader still gives: a token, the end, or a fault.
+abbrev pub IsComing : List Text → Text → Reader → Coming → Type 0
+IsComing names bytes r coming.Token = (t : PpTok) × (rest : Lexed) × (r.ahead ≡ step.Token t) × (reading names bytes r ≡ with_token (seen names t) rest)
+IsComing names bytes r coming.End = reading names bytes r ≡ record { tokens = []; fault = None }
+IsComing names bytes r (coming.Fault f) = (s : Fault) × (reading names bytes r ≡ stop s) × (f ≡ fault_in r.file s)
+
 abbrev pub first_ahead : LexStep → Bool
 first_ahead (step.Token t) = t.first
 first_ahead step.End = true
@@ -43,3 +51,8 @@ is_at_line_end r = first_ahead r.ahead
 abbrev pub IsTaken : List Text → List Text → Lexed → Lexed → Option PpTok → Type 0
 IsTaken names more old new (Some t) = old ≡ with_token (seen names t) new
 IsTaken names more old new None = (old.tokens ≡ []) × (new ≡ old) × (more ≡ names)
+
+-- a token that is taken is of the file, and the table of names has its text
+abbrev pub IsOfFile : PathNo → List Text → Option PpTok → Type 0
+IsOfFile file names (Some t) = IsOf file names t
+IsOfFile file names None = Unit {0}

@@ -1,5 +1,5 @@
 //! The list of an `#if` in which `defined` is answered (C11 6.10.1p1).
-ghost use Rattle.std.specs.Prelude.{◌≡◌, List as ListOf, ◌^◌, ◌-◌, ◌<◌, ◌+◌, [], codes, IfOk, IfSome, OnOk, length, map, is_some, if◌then◌else◌};
+ghost use Rattle.std.specs.Prelude.{◌≡◌, List as ListOf, ◌^◌, ◌-◌, ◌<◌, ◌+◌, ◌++◌, flat_map, [], codes, IfOk, IfSome, OnOk, length, map, is_some, if◌then◌else◌};
 ghost use Rattle.std.specs.Option.{option_map};
 ghost use Rattle.cr_base.specs.NameTable.{with_text};
 ghost use Rattle.cr_cond.specs.Value.{is_defined};
@@ -9,10 +9,12 @@ ghost use Rattle.cr_macros.specs.Tokens.{Text, token_of, tokens_of};
 ghost use Rattle.cr_macros.specs.MacroTables.{macro_named};
 ghost use Rattle.cr_base.specs.declared.token.PpKind.TheVariants as kind;
 ghost use Rattle.cr_preproc.specs.Conditionals as spec;
+ghost use Rattle.cr_preproc.specs.Traces.{all_events_seen};
 ghost use Rattle.cr_preproc.specs.Seen.{IsNamed, AreNamed, AreMacrosNamed, macros_of, seen_asked, seen_answer, answer_at, answered_list, AreDigits};
 
-use cr_base::{Name, NameTable, Origin, OutOfMemory, PpKind, PpTok};
-use cr_macros::{MacroTable, is_ident, is_mark, predefined_named, text};
+use crate::trace::{Renaming, note};
+use cr_base::{Name, NameTable, Origin, OutOfMemory, PpKind, PpTok, Role};
+use cr_macros::{MacroTable, Seen, is_ident, is_mark, predefined_named, text};
 use std::alloc::Global;
 
 fn is_defined(names: &NameTable, t: PpTok) -> bool
@@ -32,7 +34,7 @@ fn has_macro(names: &NameTable, macros: &MacroTable, name: Name) -> bool
 }
 
 // Whether a token names a macro, a predefined one too.
-fn is_macro(names: &NameTable, macros: &MacroTable, t: PpTok) -> bool
+pub fn is_macro(names: &NameTable, macros: &MacroTable, t: PpTok) -> bool
     requires named { IsNamed names.now t }
     requires macros { AreMacrosNamed names.now macros.now }
     ensures { result ≡ spec.is_macro_of (macros_of names.now macros.now) (token_of names.now [] t) }
@@ -61,6 +63,7 @@ fn asked(names: &NameTable, tokens: &[PpTok]) -> Option<(PpTok, usize)>
 }
 
 fn number(t: PpTok, text: Name) -> PpTok
+    ensures text { result.text ≡ text }
     ensures made { (names : ListOf Text) → token_of names [] result ≡ made (token_of names [] t) kind.Number (text_of names text) t.space [] }
 {
     PpTok {
@@ -93,7 +96,8 @@ fn answered(
     requires macros { AreMacrosNamed names.now macros.now }
     requires name { IsNamed names.now name }
     requires digits { AreDigits names.now digits }
-    ensures { token_of names.now [] result ≡ spec.answered (spec.is_macro_of (macros_of names.now macros.now)) (spec.Asks (token_of names.now [] t) (token_of names.now [] name)) }
+    ensures named { IsNamed names.now result }
+    ensures answered { token_of names.now [] result ≡ spec.answered (spec.is_macro_of (macros_of names.now macros.now)) (spec.Asks (token_of names.now [] t) (token_of names.now [] name)) }
 {
     number(t, digit(digits, is_macro(names, macros, name)))
 }
@@ -107,9 +111,11 @@ fn answer(
     rest: &[PpTok],
 ) -> (PpTok, usize)
     requires macros { AreMacrosNamed names.now macros.now }
+    requires token { IsNamed names.now t }
     requires rest { AreNamed names.now rest.now }
     requires digits { AreDigits names.now digits }
-    ensures { seen_answer names.now result ≡ answer_at (spec.is_macro_of (macros_of names.now macros.now)) (token_of names.now [] t) (tokens_of names.now rest.now) }
+    ensures named { IsNamed names.now result.0 }
+    ensures answered { seen_answer names.now result ≡ answer_at (spec.is_macro_of (macros_of names.now macros.now)) (token_of names.now [] t) (tokens_of names.now rest.now) }
 {
     if !is_defined(names, t) {
         return (t, 0);
@@ -131,7 +137,8 @@ fn answered_with(
     requires macros { AreMacrosNamed names.now macros.now }
     requires tokens { AreNamed names.now tokens.now }
     requires digits { AreDigits names.now digits }
-    ensures { IfOk result (λ made. tokens_of names.now made.items ≡ answered_list (macros_of names.now macros.now) (tokens_of names.now tokens.now)) }
+    ensures named { IfOk result (λ made. AreNamed names.now made.items) }
+    ensures made { IfOk result (λ made. tokens_of names.now made.items ≡ answered_list (macros_of names.now macros.now) (tokens_of names.now tokens.now)) }
 {
     let mut made = Vec::new(alloc);
     let mut skip: usize = 0;
@@ -147,6 +154,53 @@ fn answered_with(
     Ok(made)
 }
 
+// Notes `defined` and the names that it asks for.
+pub fn note_asked(
+    seen: &mut Vec<Seen>,
+    names: &NameTable,
+    renaming: Renaming,
+    tokens: &[PpTok],
+) -> Result<(), OutOfMemory>
+    requires { AreNamed names.now tokens.now }
+    ensures { OnOk result (seen.new.items ≡ seen.old.items ++ all_events_seen (text_of names.now renaming.old) (text_of names.now renaming.new) (flat_map spec.asking (spec.pieces 0 (tokens_of names.now tokens.now)))) }
+{
+    let mut skip: usize = 0;
+    for i in 0..tokens.len() {
+        if skip > 0 {
+            skip -= 1;
+            continue;
+        }
+        skip = note_at(seen, names, renaming, tokens[i], &tokens[i + 1..])?;
+    }
+    Ok(())
+}
+
+// Notes the token at the head, where it is `defined` and asks for a name, with that name; and how many more
+// tokens that takes.
+fn note_at(
+    seen: &mut Vec<Seen>,
+    names: &NameTable,
+    renaming: Renaming,
+    t: PpTok,
+    rest: &[PpTok],
+) -> Result<usize, OutOfMemory>
+    requires { AreNamed names.now rest.now }
+    ensures more { IfOk result (λ more. more ≡ (spec.piece_at (token_of names.now [] t) (tokens_of names.now rest.now)).1) }
+    ensures noted { OnOk result (seen.new.items ≡ seen.old.items ++ all_events_seen (text_of names.now renaming.old) (text_of names.now renaming.new) (spec.asking (spec.piece_at (token_of names.now [] t) (tokens_of names.now rest.now)).0)) }
+{
+    if !is_defined(names, t) {
+        return Ok(0);
+    }
+    match asked(names, rest) {
+        None => Ok(0),
+        Some((name, more)) => {
+            note(seen, names, renaming, Role::Directive, t)?;
+            note(seen, names, renaming, Role::Directive, name)?;
+            Ok(more)
+        }
+    }
+}
+
 /// The tokens of a list with `defined` answered. The table of names has gained `0` and `1`.
 pub fn answer_defined(
     alloc: Global,
@@ -158,6 +212,7 @@ pub fn answer_defined(
     requires macros { AreMacrosNamed names.old macros.now }
     requires tokens { AreNamed names.old tokens.now }
     ensures made { IfOk result (λ made. tokens_of names.new made.items ≡ answered_list (macros_of names.new macros.now) (tokens_of names.new tokens.now)) }
+    ensures named { IfOk result (λ made. AreNamed names.new made.items) }
     ensures names { OnOk result (names.new ≡ with_text (with_text names.old (codes "0")) (codes "1")) }
 {
     let zero = names.intern(b"0")?;

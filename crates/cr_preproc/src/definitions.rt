@@ -3,9 +3,10 @@ ghost use Rattle.std.specs.Prelude.{◌≡◌, ◌≤◌, ◌<◌, None, [], OnO
 ghost use Rattle.std.specs.Option.{option_map};
 ghost use Rattle.cr_macros.specs.Definition.{IsFirstPlaced, text_of};
 ghost use Rattle.cr_macros.specs.Definition as number;
+ghost use Rattle.cr_macros.specs.MacroTables.{Defines, Sets};
 ghost use Rattle.cr_macros.specs.Tokens.{token_of, tokens_of};
 ghost use Rattle.cr_preproc.specs.Definition as spec;
-ghost use Rattle.cr_preproc.specs.Seen.{AreNamed, AreMacrosNamed, SetsText, IsDefined, IsUndefined};
+ghost use Rattle.cr_preproc.specs.Seen.{IsNamed, AreNamed, AreMacrosNamed, SetsText, IsDefined, IsUndefined};
 
 use cr_base::{Name, NameTable, PpTok};
 use cr_macros::{ExpandFault, MacroTable, is_ident, is_mark, predefined_named, text};
@@ -18,6 +19,7 @@ pub fn define(macros: &mut MacroTable, names: &NameTable, line: &[PpTok]) -> Res
     requires macros { AreMacrosNamed names.now macros.old }
     ensures defines { OnOk result (IsDefined names.now line.now macros.old macros.new) }
     ensures named { OnOk result (AreMacrosNamed names.now macros.new) }
+    ensures by_number { OnOk result (Defines names.now line.now macros.old macros.new) }
     ensures refused { IfErr result (λ fault. IsUndefined names.now line.now fault) }
     ensures kept { OnErr result (macros.new ≡ macros.old) }
 {
@@ -33,6 +35,7 @@ pub fn undefine(macros: &mut MacroTable, names: &NameTable, name: Name)
     requires macros { AreMacrosNamed names.now macros.old }
     ensures sets { SetsText names.now macros.old (text_of names.now name) None macros.new }
     ensures named { AreMacrosNamed names.now macros.new }
+    ensures by_number { Sets macros.old name None macros.new }
 {
     // The table of names has each text once.
     let _ = names.text(name);
@@ -68,7 +71,8 @@ pub fn parameters<'a>(names: &NameTable, behind: &'a [PpTok]) -> &'a [PpTok]
 
 /// The name of an `undef`.
 pub fn undefined_name(names: &NameTable, tokens: &[PpTok]) -> Option<PpTok>
-    ensures { option_map (token_of names.now []) result ≡ spec.undefined_name (tokens_of names.now tokens.now) }
+    ensures name { option_map (token_of names.now []) result ≡ spec.undefined_name (tokens_of names.now tokens.now) }
+    ensures named { AreNamed names.now tokens.now → IfSome result (λ t. IsNamed names.now t) }
 {
     match tokens {
         [name, ..] if is_free_name(names, *name) => Some(*name),

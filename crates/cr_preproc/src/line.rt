@@ -1,6 +1,8 @@
 //! What a line of a file is.
-ghost use Rattle.std.specs.Prelude.{◌≡◌, []};
+ghost use Rattle.std.specs.Prelude.{◌≡◌, ◌∷◌, [], List as ListOf};
+ghost use Rattle.cr_base.specs.declared.token.PpTok.{PpTok as TheToken};
 ghost use Rattle.cr_macros.specs.Tokens.{tokens_of, token_of};
+ghost use Rattle.cr_preproc.specs.LineParts.{AreParts};
 ghost use Rattle.cr_preproc.specs.Lines as spec;
 ghost use Rattle.cr_preproc.specs.Seen.{seen_line};
 
@@ -56,7 +58,8 @@ fn by_word<'a>(
     rest: &'a [PpTok],
     found: Option<Word>,
 ) -> Line<'a>
-    ensures { seen_line names.now result ≡ spec.by_word hash (token_of names.now [] word) (tokens_of names.now rest.now) found }
+    ensures parts { (behind all : ListOf TheToken) (first : TheToken) → behind ≡ word ∷ rest.now → all ≡ first ∷ behind → AreParts all result }
+    ensures seen { seen_line names.now result ≡ spec.by_word hash (token_of names.now [] word) (tokens_of names.now rest.now) found }
 {
     match found {
         None => Line::Directive(hash, word, rest),
@@ -65,7 +68,8 @@ fn by_word<'a>(
 }
 
 fn behind_hash<'a>(names: &NameTable, hash: Place, tokens: &'a [PpTok]) -> Line<'a>
-    ensures { seen_line names.now result ≡ spec.behind_hash hash (tokens_of names.now tokens.now) }
+    ensures parts { (all : ListOf TheToken) (first : TheToken) → all ≡ first ∷ tokens.now → AreParts all result }
+    ensures seen { seen_line names.now result ≡ spec.behind_hash hash (tokens_of names.now tokens.now) }
 {
     match tokens {
         [] => Line::Empty,
@@ -81,7 +85,8 @@ fn behind_hash<'a>(names: &NameTable, hash: Place, tokens: &'a [PpTok]) -> Line<
 
 // What the tokens of a line are.
 pub fn line_of<'a>(names: &NameTable, tokens: &'a [PpTok]) -> Line<'a>
-    ensures { seen_line names.now result ≡ spec.line_of (tokens_of names.now tokens.now) }
+    ensures parts { AreParts tokens.now result }
+    ensures seen { seen_line names.now result ≡ spec.line_of (tokens_of names.now tokens.now) }
 {
     match tokens {
         [first, rest @ ..] if is_hash(names, *first) => behind_hash(names, first.site, rest),

@@ -7,6 +7,7 @@ ghost use Rattle.cr_base.specs.declared.cause.IllCause.TheVariants as cause;
 ghost use Rattle.cr_base.specs.declared.token.Place.{Place as ThePlace};
 ghost use Rattle.cr_macros.specs.Tokens.{Text, Token};
 
+use crate::line::Word;
 use cr_base::{OutOfMemory, Place};
 use std::alloc::Global;
 use std::marker::Model;
@@ -52,7 +53,7 @@ impl Model for OpenIfs {
     ghost view = { λ s. reverse s.open.items };
 }
 
-fn group_if(is_true: bool) -> Group
+pub fn group_if(is_true: bool) -> Group
     ensures { result ≡ spec.group_if is_true }
 {
     if is_true { Group::Taken } else { Group::Before }
@@ -90,6 +91,26 @@ impl OpenIfs {
         match self.first() {
             None => true,
             Some(innermost) => matches!(innermost.group, Group::Taken),
+        }
+    }
+
+    // Whether the lines around the innermost one are read.
+    fn is_live_around(&self) -> bool
+        ensures { result ≡ spec.is_live_around self.now }
+    {
+        match self.open.len() {
+            0 | 1 => true,
+            n => matches!(self.open[n - 2].group, Group::Taken),
+        }
+    }
+
+    // Whether a word is read there on a live line, or ends a group of a conditional that began on one.
+    pub fn is_word_live(&self, word: Word) -> bool
+        ensures { result ≡ spec.is_word_live self.now word }
+    {
+        match word {
+            Word::If | Word::Ifdef | Word::Ifndef => self.is_live(),
+            Word::Elif | Word::Else | Word::Endif => self.is_live_around(),
         }
     }
 

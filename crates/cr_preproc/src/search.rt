@@ -3,6 +3,7 @@ ghost use Rattle.std.specs.Prelude.{◌≡◌, IfOk};
 ghost use Rattle.cr_snapshot.specs.Files.{finding};
 ghost use Rattle.cr_preproc.specs.Search as spec;
 ghost use Rattle.cr_preproc.specs.Seen.{seen_search};
+ghost use Rattle.cr_preproc.specs.Turning.{IsSmall};
 
 use cr_base::{OutOfMemory, PathNo, PathText};
 use cr_snapshot::{Found, Snapshot};
@@ -33,7 +34,8 @@ pub fn first_file<'a>(
     snapshot: &'a Snapshot,
     paths: &[PathText],
 ) -> Result<Search<'a>, OutOfMemory>
-    ensures { IfOk result (λ found. seen_search found ≡ spec.search (λ path. finding path snapshot.now) paths.now) }
+    ensures found { IfOk result (λ found. seen_search found ≡ spec.search (λ path. finding path snapshot.now) paths.now) }
+    ensures small { IfOk result (λ found. IsSmall found) }
 {
     let mut unknown = Vec::new(alloc);
     for i in 0..paths.len() {

@@ -3,6 +3,7 @@ use Rattle.std.proofs.Common.{◌≡◌, Bool, true, false, cond, List, [], ◌�
 use Rattle.std.proofs.Math.Path.{fun_ext}
 use Rattle.std.specs.Prelude.{flat_map, codes, ◌||◌, ◌&&◌, bytes_eq, option_map}
 use Rattle.std.specs.List.{AllByRecursion}
+use Rattle.cr_base.specs.NameTable.{with_text}
 use Rattle.cr_base.specs.Names.{is_reserved}
 use Rattle.cr_base.specs.declared.token.Place.{Place}
 use Rattle.cr_base.specs.declared.cause.IllCause.TheVariants as cause
@@ -107,9 +108,9 @@ once_same r (t ∷ ts) h = ap (λ x. is_ident x.kind && bytes_eq x.text (codes "
 
 sim_pragma : (r : Renaming) (path : Text) (ts : List Token) → AreSame r ts → Sim r same (pragma path ts) (pragma path (all_renamed r ts))
 sim_pragma r path ts h =
-    sim_to r same (pragma path ts) (pragma path (all_renamed r ts)) (cond (begins_with_once ts) (change (λ s. record s { once = path ∷ s.once })) (tell (all_marks Opaque (all_renamed r ts))))
-    (ap (λ b. cond b (change (λ s. record s { once = path ∷ s.once })) (tell (all_marks Opaque (all_renamed r ts)))) (once_same r ts h))
-    (sim_if r same (begins_with_once ts) (change (λ s. record s { once = path ∷ s.once })) (tell (all_marks Opaque ts)) (change (λ s. record s { once = path ∷ s.once })) (tell (all_marks Opaque (all_renamed r ts)))
+    sim_to r same (pragma path ts) (pragma path (all_renamed r ts)) (cond (begins_with_once ts) (change (λ s. record s { once = with_text s.once path })) (tell (all_marks Opaque (all_renamed r ts))))
+    (ap (λ b. cond b (change (λ s. record s { once = with_text s.once path })) (tell (all_marks Opaque (all_renamed r ts)))) (once_same r ts h))
+    (sim_if r same (begins_with_once ts) (change (λ s. record s { once = with_text s.once path })) (tell (all_marks Opaque ts)) (change (λ s. record s { once = with_text s.once path })) (tell (all_marks Opaque (all_renamed r ts)))
     (record { at = λ s good fine. (refl, record { no_macro = good.no_macro; no_parameter = good.no_parameter }) })
     (sim_tell r (all_marks Opaque ts) (all_marks Opaque (all_renamed r ts)) (all_marks_renamed r Opaque ts)))
 

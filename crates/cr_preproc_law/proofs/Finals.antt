@@ -2,6 +2,7 @@
 use Rattle.std.proofs.Common.{◌≡◌, ℕ, zero, suc, ◌+◌, ◌-◌, Bool, true, false, cond, List, [], ◌∷◌, ◌++◌, length, map, take, drop, refl, subst, Some, None, Option}
 use Rattle.std.specs.Prelude.{nat_lt, flat_map, codes, ◌||◌, ◌&&◌, not, bytes_eq, is_some, Result, Ok, Err, ℤ}
 use Rattle.std.specs.List.{AllByRecursion}
+use Rattle.cr_base.specs.NameTable.{with_text}
 use Rattle.cr_base.specs.declared.token.Place.{Place}
 use Rattle.cr_base.specs.declared.token.Origin.{Origin}
 use Rattle.cr_base.specs.declared.token.Origin.TheVariants.{Made}
@@ -298,7 +299,7 @@ module _ (test : Origin → Bool) (made_passes : test Made ≡ true) where
 
     keeps_pragma : (path : Text) (ts : List Token) → Keeps Any (pragma path ts)
     keeps_pragma path ts =
-        keeps_if Any (begins_with_once ts) (change (λ s. record s { once = path ∷ s.once })) (tell (all_marks role.Opaque ts)) (record { at = λ s good. (tt, record { bodies = good.bodies }, tt) })
+        keeps_if Any (begins_with_once ts) (change (λ s. record s { once = with_text s.once path })) (tell (all_marks role.Opaque ts)) (record { at = λ s good. (tt, record { bodies = good.bodies }, tt) })
         (keeps_tell (all_marks role.Opaque ts) (all_marks_pass role.Opaque ts))
 
     -- files

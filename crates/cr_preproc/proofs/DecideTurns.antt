@@ -1,0 +1,54 @@
+-- What a turn does in the list of a conditional that fails or is at its end.
+use Rattle.std.proofs.Common.{◌≡◌, ◌-◌, ℕ, List, [], ◌++◌, map, refl, sym, ap, ◌∙◌, subst}
+use Rattle.cr_base.specs.declared.token.Place.{Place}
+use Rattle.cr_base.specs.declared.token.PpTok.{PpTok}
+use Rattle.cr_base.specs.declared.unit.Unit.{Unit}
+use Rattle.cr_macros.specs.Tokens.{Token, tokens_of, Answer, Gave, Stopped}
+use Rattle.cr_snapshot.specs.declared.known.KnownFile.{KnownFile}
+use Rattle.cr_expand.specs.declared.machine.TheConstants.{LIMIT}
+use Rattle.cr_preproc.specs.declared.conditional.Decision.{Decision}
+use Rattle.cr_preproc.specs.declared.expansion.Expansion.{Expansion}
+use Rattle.cr_preproc.specs.declared.expansion.Fault.{Fault}
+use Rattle.cr_preproc.specs.declared.expansion.Use.TheVariants as use1
+use Rattle.cr_preproc.specs.declared.open_file.OpenFile.{OpenFile}
+use Rattle.cr_preproc.specs.declared.progress.Progress.{Progress}
+use Rattle.cr_preproc.specs.declared.turning.Doing.{Doing}
+use Rattle.cr_preproc.specs.Tasks.{End, State, Told, Reply, Ends, Task, Nothing, end_of, moved, events_of}
+use Rattle.cr_preproc.specs.Search.{World}
+use Rattle.cr_preproc.specs.Runs.{runs, earlier}
+use Rattle.cr_preproc.specs.OpenFiles.{Reading, reading_of}
+use Rattle.cr_preproc.specs.Progressing.{state_of}
+use Rattle.cr_preproc.specs.Expanding.{IsUsed, StopsAt, still_in, end_by}
+use Rattle.cr_preproc.specs.Leading.{Leads, decided}
+use Rattle.cr_preproc.specs.Turning.{doing_left, decision_left, EndsAlike, IsNext, IsWorking}
+use Rattle.cr_preproc.proofs.Leadings.{leads_from}
+use Rattle.cr_preproc.proofs.ListsLeft.{decides_left, decides_end}
+
+-- The list stops, and the unit ends as its run does where that ends it.
+pub fails_alike : (w : World) (u : Unit) (r : Reading) (k : Task Nothing) (d : Decision) (hash : Place) (s : State) (given : List Token) (a : Answer (List Token)) (end : End) (f : Fault) (x y : Reply Nothing)
+    → StopsAt a end → end_by f ≡ moved hash end → x ≡ runs r.path r.run s → y ≡ Ends (earlier (end_by f) x) (events_of x) → EndsAlike (decides_left w u r k d hash s given a) y
+fails_alike w u r k d hash s given (Gave ts left told) end f x y h e same left_is = absurd h
+fails_alike w u r k d hash s given (Stopped why told) end f x y h e same left_is = (
+  earlier (moved hash (end_of why)) (runs r.path r.run s),
+  map Told told ++ events_of (runs r.path r.run s),
+  events_of (runs r.path r.run s),
+  refl,
+  left_is
+      ∙ ap {A = Reply Nothing} {B = Reply Nothing} (λ z. Ends (earlier (end_by f) z) (events_of z)) same
+      ∙ ap {A = End} {B = Reply Nothing} (λ z. Ends (earlier z (runs r.path r.run s)) (events_of (runs r.path r.run s))) (e ∙ ap (moved hash) (sym h)),
+)
+
+-- The list is at its end, where a use of a rule changes nothing.
+pub ends_next : (w : World) (u : Unit) (files : List KnownFile) (p q v : Progress) (f g : OpenFile) (e e2 : Expansion) (d : Decision) (hash : Place) (given us : List PpTok) (n : ℕ) (next : Doing)
+    → n ≡ e2.expander.machine.used → IsUsed p q e e2 use1.Ends → us ≡ given
+    → IsNext w u files q v g next (λ k. decision_left w u (reading_of q.names files f) k (state_of q) (decided d hash f.open_ifs (tokens_of q.names us) (state_of (record q { used = n }))))
+    → ((k : Task Nothing) → Leads 0 p v (decides_left w u (reading_of p.names files f) k d hash (state_of p) (tokens_of p.names given) (still_in p e)) (doing_left w u v (reading_of v.names files g) k next)) × IsWorking files v g next
+ends_next w u files p q v f g e e2 d hash given us n next n_is used us_is h =
+    let same =
+    subst (λ (ts : List PpTok). IsNext w u files p v g next (λ k. decision_left w u (reading_of p.names files f) k (state_of p) (decided d hash f.open_ifs (tokens_of p.names ts) (state_of (record p { used = n }))))) us_is
+    (subst (λ (y : Progress). IsNext w u files y v g next (λ k. decision_left w u (reading_of y.names files f) k (state_of y) (decided d hash f.open_ifs (tokens_of y.names us) (state_of (record y { used = n }))))) used.0 h) in (
+      (λ k. leads_from 0 p v _ _ _
+          (decides_end w u (reading_of p.names files f) k d hash (state_of p) (tokens_of p.names given) (still_in p e) (LIMIT - n) (used.3 ∙ ap (λ m. Gave [] (LIMIT - m) []) (sym n_is)))
+          (same.0 k)),
+      same.1,
+    )
