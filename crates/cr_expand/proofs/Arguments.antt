@@ -6,6 +6,7 @@ use Rattle.std.proofs.lemmas.List.{map-append}
 use Rattle.std.proofs.lemmas.List.Elements.{All-head, All-tail, All-append}
 use Rattle.cr_base.specs.declared.token.Place.{Place}
 use Rattle.cr_base.specs.declared.token.PpKind.{PpKind}
+use Rattle.cr_base.specs.declared.cause.Role.TheVariants.{MacroName}
 use Rattle.cr_macros.specs.declared.macros.Macro.{Macro}
 use Rattle.cr_macros.specs.declared.fault.ExpandFault.{ExpandFault}
 use Rattle.cr_macros.specs.declared.fault.ExpandFault.TheVariants as fault
@@ -14,21 +15,22 @@ use Rattle.cr_expand.specs.declared.slot.Slot.{Slot}
 use Rattle.cr_expand.specs.declared.slot.Slot.TheVariants as slot
 use Rattle.cr_expand.specs.declared.machine.Machine.{Machine}
 use Rattle.cr_expand.specs.declared.machine.TheConstants.{LIMIT}
-use Rattle.cr_macros.specs.Tokens.{Text, Token, MacroText, Stopped, ◌>>=◌, with_name, both, Cause, ArgCount, OpenCall}
+use Rattle.cr_macros.specs.Tokens.{Text, Token, MacroText, Stopped, ◌>>=◌, takes, with_name, both, Cause, ArgCount, OpenCall}
 use Rattle.cr_macros.specs.Definition.{text_of}
 use Rattle.cr_macros.specs.Substitution.{body_items}
 use Rattle.cr_macros.specs.Expansion.{Table, Predefined, Wrong, use_of, counted_call, expand, expanded}
 use Rattle.cr_macros.specs.Laws.{FollowsTheRules}
 use Rattle.cr_macros.specs.MacroTables.{Macros, macro_named, macro_text, table_of}
 use Rattle.cr_expand.specs.HideSets.{Grows}
-use Rattle.cr_expand.specs.Held.{held, all_held, all_args, hidden, IsKnown, AreKnown, IsCause, Faults}
+use Rattle.cr_expand.specs.Held.{held, all_held, all_args, hidden, IsKnown, AreKnown, IsCause}
 use Rattle.cr_expand.specs.Frames as frames
 use Rattle.cr_expand.specs.Running.{Waiting, Piece, Stands, Ends, current, behind, before, first_lists, behind_lists, goes_on_by, put_for}
 use Rattle.cr_expand.specs.Slots.{tokens, ended, ends, begun, IsSlotKnown, AreSlotsKnown}
 use Rattle.cr_expand.specs.Turns.{list_of, IsCallUse}
 use Rattle.cr_expand.specs.Wanted.{is_wanted, is_whole}
-use Rattle.cr_expand.specs.Machines.{means_of, waiting_of, waiting, total, still, ahead, BothFault, IsCallKnown, IsMachine, AreMacros, IsEntered, IsMiscounted, next_call}
-use Rattle.cr_expand.proofs.Telling.{no_memory}
+use Rattle.cr_expand.specs.Machines.{means_of, waiting_of, waiting, total, still, ahead, uses, FaultsAtOnce, BothFault, IsCallKnown, IsMachine, AreMacros, IsEntered, IsMiscounted, next_call}
+use Rattle.cr_expand.proofs.Quiet.{uses_append, takes_none}
+use Rattle.cr_expand.proofs.Puttings.{no_memory_at_once}
 use Rattle.cr_expand.proofs.Kept.{held_kept, all_args_kept}
 use Rattle.cr_expand.proofs.Sets.{grows_same}
 use Rattle.cr_expand.proofs.Counting.{length_map}
@@ -55,11 +57,11 @@ module _ (names new : List Text) (macros : Macros) (old now : Machine) (more : L
   wrong_faults : (law : FollowsTheRules) (h : Held) (rest : List Slot) (cause : Cause) (x : ExpandFault) → old.slots.items ≡ slot.Token h ∷ rest → use_of T (held names old.sets h) (current (front names old.sets rest more)) ≡ Wrong cause
       → IsCause cause x → BothFault names macros old more x
   wrong_faults law h rest cause x e u i = (one (expanding law), one seeking) where
-    one : {A : Type 0} (o : Outermost A) → Faults (left_by o.does names macros old more) x
-    one o = rw (wrong_use o law h rest cause e u) (inl i)
+    one : {A : Type 0} (o : Outermost A) → FaultsAtOnce (left_by o.does names macros old more) x
+    one o = rw (wrong_use o law h rest cause e u) (inl (i, refl))
 
   no_memory_both : BothFault names macros old more fault.OutOfMemory
-  no_memory_both = (no_memory (still names macros old more), no_memory (ahead names macros old more))
+  no_memory_both = (no_memory_at_once (still names macros old more), no_memory_at_once (ahead names macros old more))
 
   pub unclosed : (law : FollowsTheRules) (h : Held) (rest : List Slot) (site : Place) → old.slots.items ≡ slot.Token h ∷ rest → use_of T (held names old.sets h) (current (front names old.sets rest more)) ≡ Wrong (OpenCall site)
       → BothFault names macros old more (fault.OpenCall site)
@@ -72,12 +74,14 @@ module _ (names new : List Text) (macros : Macros) (old now : Machine) (more : L
     | inl m ↦ rw m no_memory_both
     | inr p ↦ (one (expanding law) p, one seeking p)
   ] where
-    one : {A : Type 0} (o : Outermost A) → (x ≡ fault.LimitMacros) × (LIMIT < old.used + 2) → Faults (left_by o.does names macros old more) x
+    one : {A : Type 0} (o : Outermost A) → (x ≡ fault.LimitMacros) × (LIMIT < old.used + 2) → FaultsAtOnce (left_by o.does names macros old more) x
     one o p = rw (
       p.0,
       left_old names new macros old now more mach known g k file o _ (Stands (held names old.sets h) ∷ front names old.sets rest more) refl (front_old names new macros old now more mach known g k file (slot.Token h) rest e),
       predefined_over T law (o.does T) (o.rules T) (waiting names macros old.sets old.frames.items) (held names old.sets h) kind text (front names old.sets rest more) (LIMIT - old.used) u (omega (arith, p.1)),
-    ) (inl refl)
+    ) (inl (refl, none)) where
+      none : uses (takes MacroName (held names old.sets h) ++ []) ≡ 0
+      none = let a = uses_append (takes MacroName (held names old.sets h)) [] in let b = takes_none MacroName (held names old.sets h) in omega (arith, a, b)
 
   -- the next argument is begun
   pub next_argument : {A : Type 0} (o : Outermost A) (law : FollowsTheRules) (cs : List frames.Call) (c : frames.Call) (rest : List Slot) → old.slots.items ≡ slot.End ∷ rest → old.frames.items ≡ cs ++ c ∷ [] → 0 < c.more

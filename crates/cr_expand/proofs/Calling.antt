@@ -24,8 +24,8 @@ use Rattle.cr_expand.specs.Running.{Waiting, Stands, Ends, current, behind, befo
 use Rattle.cr_expand.specs.Ahead.{next_token}
 use Rattle.cr_expand.specs.Slots.{tokens, ended, ends, begun, IsSlotKnown, AreSlotsKnown}
 use Rattle.cr_expand.specs.Calls.{IsAmong}
-use Rattle.cr_expand.specs.Machines.{means_of, waiting_of, waiting, total, still, ahead, IsCallHeld, IsMachine, AreMacros, IsAhead, BothFault, IsPut, AreArguments, done_call, put_for_call}
-use Rattle.cr_expand.proofs.Telling.{faults_first}
+use Rattle.cr_expand.specs.Machines.{means_of, waiting_of, waiting, total, still, ahead, IsCallHeld, IsMachine, AreMacros, IsAhead, FaultsAtOnce, BothFault, IsPut, AreArguments, done_call, put_for_call}
+use Rattle.cr_expand.proofs.Puttings.{put_for_at_once, at_once_first}
 use Rattle.cr_expand.proofs.Going.{current_before, behind_before, IsDropped, leads_none, goes_object, goes_last, Outermost, expanding, seeking}
 use Rattle.cr_expand.proofs.Entering.{AreArguments as AreTextArguments}
 use Rattle.cr_expand.proofs.Steps.{all_front, front, front_tokens, left_by, left_old, left_now, waiting_kept, front_kept, front_old, rest_known, calls_old, calls_held}
@@ -151,7 +151,7 @@ module _ (names new : List Text) (macros : Macros) (old now : Machine) (more : L
       → ahead names macros old more ≡ (work >>= λ ts. goes_on_by (next_token T) T ws (before ts (front names old.sets rest more))) (LIMIT - old.used)
       → IsPut names new old now work rest → waiting new macros now.sets now.frames.items ≡ ws → AreSlotsKnown names old.sets rest → IsAhead names new macros old now more step.More
   puts law ws work rest e f p w a = (
-    record { events = p.events; one = p.one; goes = puts_on (expanding law) ws work rest e p w a ∙ leads_none p.events (still new macros now more); seen = p.seen },
+    record { events = p.events; one = p.one; last = p.last; goes = puts_on (expanding law) ws work rest e p w a ∙ leads_none p.events (still new macros now more); seen = p.seen },
     puts_on seeking ws work rest f p w a,
   )
 
@@ -175,8 +175,9 @@ module _ (names new : List Text) (macros : Macros) (old now : Machine) (more : L
   pub object_faults : (law : FollowsTheRules) (h : Held) (m : Macro) (rest : List Slot) (x : ExpandFault) → old.slots.items ≡ slot.Token h ∷ rest → use_of T (held names old.sets h) (current (front names old.sets rest more)) ≡ Object (macro_text names m)
       → Faults (put_for (held names old.sets h) (macro_text names m) [] [] (with_name (text_of names h.token.text) (hidden names old.sets h.hide.0)) (LIMIT - old.used)) x → BothFault names macros old more x
   object_faults law h m rest x e u p = (one (expanding law), one seeking) where
-    one : {A : Type 0} (o : Outermost A) → Faults (left_by o.does names macros old more) x
-    one o = rw (object_goes o law h m rest e u) (faults_first _ (λ ts. goes_on_by (o.does T) T (waiting names macros old.sets old.frames.items) (before ts (front names old.sets rest more))) x p)
+    one : {A : Type 0} (o : Outermost A) → FaultsAtOnce (left_by o.does names macros old more) x
+    one o = rw (object_goes o law h m rest e u) (at_once_first _ (λ ts. goes_on_by (o.does T) T (waiting names macros old.sets old.frames.items) (before ts (front names old.sets rest more))) x
+        (put_for_at_once (held names old.sets h) (macro_text names m) [] [] (with_name (text_of names h.token.text) (hidden names old.sets h.hide.0)) (LIMIT - old.used) x p))
 
   -- the last argument of a call ends
   last_goes : {A : Type 0} (o : Outermost A) (law : FollowsTheRules) (cs : List frames.Call) (c : frames.Call) (rest : List Slot) → old.slots.items ≡ slot.End ∷ rest → old.frames.items ≡ cs ++ c ∷ [] → c.more ≡ 0
@@ -201,5 +202,6 @@ module _ (names new : List Text) (macros : Macros) (old now : Machine) (more : L
   pub complete_faults : (law : FollowsTheRules) (cs : List frames.Call) (c : frames.Call) (rest : List Slot) (x : ExpandFault) → old.slots.items ≡ slot.End ∷ rest → old.frames.items ≡ cs ++ c ∷ [] → c.more ≡ 0
       → Faults (put_for_call names macros old.sets (done_call c) (LIMIT - old.used)) x → BothFault names macros old more x
   complete_faults law cs c rest x e f m p = (one (expanding law), one seeking) where
-    one : {A : Type 0} (o : Outermost A) → Faults (left_by o.does names macros old more) x
-    one o = rw (last_goes o law cs c rest e f m) (faults_first _ (λ ts. goes_on_by (o.does T) T (waiting names macros old.sets cs) (before ts (front names old.sets rest more))) x p)
+    one : {A : Type 0} (o : Outermost A) → FaultsAtOnce (left_by o.does names macros old more) x
+    one o = rw (last_goes o law cs c rest e f m) (at_once_first _ (λ ts. goes_on_by (o.does T) T (waiting names macros old.sets cs) (before ts (front names old.sets rest more))) x
+        (put_for_at_once (held names old.sets c.name) (means_of names (macro_named c.name.token.text macros)) (all_args names old.sets c.raw) (all_args names old.sets (done_call c).done) (hidden names old.sets c.hide) (LIMIT - old.used) x p))

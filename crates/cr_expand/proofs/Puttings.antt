@@ -1,20 +1,23 @@
 -- What is put in for a name, where the work allows it.
-use Rattle.std.proofs.Common.{◌≡◌, ℕ, suc, ◌+◌, ◌-◌, ◌<◌, ◌≤◌, true, false, cond, List, [], ◌∷◌, ◌++◌, length, refl, sym, ap, ◌∙◌, arith, append-nil, inl}
+use Rattle.std.proofs.Common.{◌≡◌, ℕ, suc, ◌+◌, ◌-◌, ◌<◌, ◌≤◌, Bool, true, false, cond, List, [], ◌∷◌, ◌++◌, length, refl, sym, ap, ◌∙◌, arith, append-nil, inl, inr}
 use Rattle.std.specs.Prelude.{nat_lt}
 use Rattle.std.proofs.lemmas.Bool.Decides.{nat_tests}
 use Rattle.cr_macros.specs.declared.macros.Seen.{Seen}
+use Rattle.cr_macros.specs.declared.fault.ExpandFault.{ExpandFault}
 use Rattle.cr_macros.specs.declared.fault.ExpandFault.TheVariants as fault
 use Rattle.cr_expand.specs.declared.held.Held.{Held}
 use Rattle.cr_expand.specs.declared.slot.Slot.{Slot}
 use Rattle.cr_expand.specs.declared.machine.Machine.{Machine}
 use Rattle.cr_expand.specs.declared.machine.TheConstants.{LIMIT}
 use Rattle.cr_macros.specs.Tokens.{Text, Token, MacroText, Event, Rule, Over, Answer, Gave, Stopped, Work, after, then_do, ◌>>=◌, pay}
+use Rattle.cr_macros.specs.Substitution.{Args}
+use Rattle.cr_macros.specs.Substitution
 use Rattle.cr_macros.specs.Expansion.{put_in}
 use Rattle.cr_expand.specs.HideSets.{Sets, Grows}
 use Rattle.cr_expand.specs.Held.{Watch, noted, Tells, Faults, watch_of, held, all_held, hidden, IsKnown, AreKnown, AreTables}
 use Rattle.cr_expand.specs.Slots.{tokens}
-use Rattle.cr_expand.specs.Machines.{IsPut, uses}
-use Rattle.cr_expand.proofs.Quiet.{QuietAnswer, uses_append}
+use Rattle.cr_expand.specs.Machines.{EndsWithRule, FaultsAtOnce, IsPut, uses}
+use Rattle.cr_expand.proofs.Quiet.{QuietAnswer, uses_append, quiet_subst}
 use Rattle.cr_expand.proofs.Noted.{noted_append}
 use Rattle.cr_expand.proofs.Sets.{grows_then, grows_same}
 use Rattle.cr_expand.proofs.Kept.{held_kept}
@@ -32,12 +35,13 @@ module _ (w : Watch) (s0 s1 : List Seen) (value : List Token) (left : ℕ) where
   with_rule events e = e ∙ ap (λ l. s0 ++ l) (sym (noted_append w events (Rule ∷ []) ∙ append-nil (noted w events)))
 
   gives : (r : Answer (List Token)) → Tells w s0 s1 r value left → QuietAnswer r → 1 + length value ≤ left
-      → (events : List Event) × (then_do r (λ ts. put_in ts) ≡ Gave value (left - (1 + length value)) events) × (s1 ≡ s0 ++ noted w events) × (uses events ≡ 1)
+      → (events : List Event) × (then_do r (λ ts. put_in ts) ≡ Gave value (left - (1 + length value)) events) × (s1 ≡ s0 ++ noted w events) × (uses events ≡ 1) × EndsWithRule events
   gives (Gave a l events) h q k = (
     events ++ Rule ∷ [],
     ap (λ x. after events (put_in x l)) h.0 ∙ ap (λ x. after events (put_in value x)) h.1 ∙ ap (after events) (paid (1 + length value) k),
     with_rule events h.2,
-    let u = uses_append events (Rule ∷ []) in omega (arith, u, q),
+    (let u = uses_append events (Rule ∷ []) in omega (arith, u, q)),
+    (events, refl),
   )
   gives (Stopped cause stopped) h q k = absurd h
 
@@ -62,6 +66,7 @@ is_put names new old now m rest list t q u l s k a g h =
       list = list;
       events = p.0;
       one = p.3;
+      last = p.4;
       gives = p.1 ∙ ap (λ x. Gave (all_held new now.sets list) x p.0) (let e : LIMIT - old.used - (1 + length (all_held new now.sets list)) ≡ LIMIT - now.used = omega (arith, n) in e);
       seen = p.2;
       slots = s;
@@ -79,6 +84,7 @@ put_again names new old mid now work work2 rest rest2 u n g e f p = record {
   list = p.list;
   events = p.events;
   one = p.one;
+  last = p.last;
   gives = ap (λ f. f (LIMIT - old.used)) (sym e) ∙ ap (λ x. work (LIMIT - x)) (sym u) ∙ p.gives;
   seen = p.seen ∙ ap (λ x. x.seen.items ++ noted (watch_of names x) p.events) n;
   slots = p.slots ∙ ap (λ l. tokens p.list ++ l) f;
@@ -95,3 +101,25 @@ pub object_work : (names : List Text) (old new : Sets) (h : Held) (m : MacroText
 object_work names old new h m n hide t k p =
     ap (λ x. put_for x m [] [] (hidden names new n)) (held_kept names names old new h (grows_same names) p.grows t.named k)
     ∙ ap (put_for (held names old h) m [] []) p.text
+
+-- Where what is put in isn't there, or not paid for, its rule wasn't used.
+put_at_once : (r : Answer (List Token)) (x : ExpandFault) → QuietAnswer r → Faults (then_do r (λ ts. put_in ts)) x → FaultsAtOnce (then_do r (λ ts. put_in ts)) x
+put_at_once (Stopped cause stopped) x q (inl i) = inl (i, q)
+put_at_once (Stopped cause stopped) x q (inr m) = inr m
+put_at_once (Gave ts left events) x q f = paying (nat_lt left (1 + length ts)) f where
+  paying : (b : Bool) → Faults (after events (cond b (Stopped Over []) (Gave ts (left - (1 + length ts)) (Rule ∷ [])))) x → FaultsAtOnce (after events (cond b (Stopped Over []) (Gave ts (left - (1 + length ts)) (Rule ∷ [])))) x
+  paying true (inl i) = inl (i, (let u = uses_append events [] in omega (arith, u, q)))
+  paying true (inr m) = inr m
+  paying false m = m
+
+pub put_for_at_once : (name : Token) (m : MacroText) (raw full : Args) (hide : List Text) (left : ℕ) (x : ExpandFault) → Faults (put_for name m raw full hide left) x → FaultsAtOnce (put_for name m raw full hide left) x
+put_for_at_once name m raw full hide left x f = put_at_once (Substitution.subst name m raw full hide left) x ((quiet_subst name m raw full hide).at left) f
+
+pub no_memory_at_once : {A : Type 0} (r : Answer A) → FaultsAtOnce r fault.OutOfMemory
+no_memory_at_once (Gave a left events) = refl
+no_memory_at_once (Stopped cause stopped) = inr refl
+
+-- the fault of the work that is done first
+pub at_once_first : {A B : Type 0} (r : Answer A) (f : A → Work B) (e : ExpandFault) → FaultsAtOnce r e → FaultsAtOnce (then_do r f) e
+at_once_first (Gave a left events) f e h = rw h (no_memory_at_once (after events (f a left)))
+at_once_first (Stopped cause stopped) f e h = h

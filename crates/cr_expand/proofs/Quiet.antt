@@ -20,18 +20,18 @@ uses_append (Taken text place role ∷ xs) ys = uses_append xs ys
 
 abbrev pub QuietAnswer : {A : Type 0} → Answer A → Type 0
 QuietAnswer (Gave a left events) = uses events ≡ 0
-QuietAnswer (Stopped cause stopped) = Unit {0}
+QuietAnswer (Stopped cause stopped) = uses stopped ≡ 0
 
 pub record Quiet {A : Type 0} (m : Work A) : Type 0 where
   pub at : (left : ℕ) → QuietAnswer (m left)
 
 quiet_after : {A : Type 0} (events : List Event) (r : Answer A) → uses events ≡ 0 → QuietAnswer r → QuietAnswer (after events r)
 quiet_after events (Gave a left more) h k = let u = uses_append events more in omega (arith, u, h, k)
-quiet_after events (Stopped cause stopped) h k = tt
+quiet_after events (Stopped cause stopped) h k = let u = uses_append events stopped in omega (arith, u, h, k)
 
 quiet_then_do : {A B : Type 0} (r : Answer A) (f : A → Work B) → QuietAnswer r → ((a : A) → Quiet (f a)) → QuietAnswer (then_do r f)
 quiet_then_do (Gave a left events) f h g = quiet_after events (f a left) h ((g a).at left)
-quiet_then_do (Stopped cause stopped) f h g = tt
+quiet_then_do (Stopped cause stopped) f h g = h
 
 quiet_then : {A B : Type 0} (m : Work A) (f : A → Work B) → Quiet m → ((a : A) → Quiet (f a)) → Quiet (m >>= f)
 quiet_then m f h g = record { at = λ left. quiet_then_do (m left) f (h.at left) g }
@@ -43,7 +43,7 @@ quiet_note : {A : Type 0} (events : List Event) (a : A) → uses events ≡ 0 �
 quiet_note events a h = record { at = λ left. h }
 
 quiet_fail : {A : Type 0} (cause : Cause) → Quiet (fail {A = A} cause)
-quiet_fail cause = record { at = λ left. tt }
+quiet_fail cause = record { at = λ left. refl }
 
 quiet_cond : {A : Type 0} (b : Bool) (m n : Work A) → Quiet m → Quiet n → Quiet (cond b m n)
 quiet_cond true m n h k = h

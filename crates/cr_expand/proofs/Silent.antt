@@ -7,10 +7,10 @@ use Rattle.cr_expand.specs.declared.machine.ExpStep.TheVariants as step
 use Rattle.cr_expand.specs.declared.machine.TheConstants.{LIMIT}
 use Rattle.cr_macros.specs.Tokens.{Text, Token, token_of, Gave}
 use Rattle.cr_macros.specs.MacroTables.{Macros}
-use Rattle.cr_expand.specs.Held.{Faults, noted, watch_of}
+use Rattle.cr_expand.specs.Held.{noted, watch_of}
 use Rattle.cr_expand.specs.Slots.{ends}
 use Rattle.cr_expand.specs.Frames.{Call}
-use Rattle.cr_expand.specs.Machines.{total, still, ahead, IsMachine, IsUse, IsStep, IsAhead, BothFault, IsTurnStep, IsWantedAt, IsTurnWanted, IsSameRun}
+use Rattle.cr_expand.specs.Machines.{total, still, ahead, IsMachine, IsUse, IsStep, IsAhead, FaultsAtOnce, BothFault, IsTurnStep, IsWantedAt, IsTurnWanted, IsSameRun}
 use Rattle.cr_expand.proofs.Noted.{same_watch}
 
 -- The machine gives what it gave at first; it is as it was, or a call waits.
@@ -47,6 +47,7 @@ use_after : (names new : List Text) (macros : Macros) (first mid now : Machine) 
 use_after names new macros first mid now more out e s r u = record {
   events = u.events;
   one = u.one;
+  last = u.last;
   goes = e ∙ u.goes;
   seen = u.seen ∙ ap (λ l. l ++ noted (watch_of names mid.notes) u.events) s ∙ ap (λ w. first.notes.seen.items ++ noted w u.events) (same_events names first mid r.0 r.1);
 }
@@ -105,6 +106,6 @@ wanted_after names at new macros first mid step.End k w = by k.waits where
 pub faults_after : (names at : List Text) (macros : Macros) (first mid : Machine) (x : ExpandFault) (more : List Token) → IsSilent names at macros first mid → (first.finished ≡ true → more ≡ [])
     → BothFault at macros mid more x → BothFault names macros first more x
 faults_after names at macros first mid x more k q f = (
-  subst (λ r. Faults r x) (ap (λ n. still n macros mid more) k.names_same ∙ sym (k.gives more q)) f.0,
-  subst (λ r. Faults r x) (ap (λ n. ahead n macros mid more) k.names_same ∙ sym (k.finds more q)) f.1,
+  subst (λ r. FaultsAtOnce r x) (ap (λ n. still n macros mid more) k.names_same ∙ sym (k.gives more q)) f.0,
+  subst (λ r. FaultsAtOnce r x) (ap (λ n. ahead n macros mid more) k.names_same ∙ sym (k.finds more q)) f.1,
 )

@@ -158,6 +158,7 @@ module _ (names new : List Text) (macros : Macros) (old now : Machine) (more : L
       let used : IsUse names new macros old now more (token_of new hide t ∷ []) = record {
         events = Rule ∷ [];
         one = refl;
+        last = ([], refl);
         goes = left_old (expanding law) [] (Stands (held names old.sets h) ∷ front names old.sets rest more) (ap (waiting names macros old.sets) i.0) (front_old (slot.Token h) rest e)
             ∙ outer_keeps table_of_old law (held names old.sets h) (front names old.sets rest more) (LIMIT - old.used) u
             ∙ ap (λ y. leads (y ∷ []) (Rule ∷ []) (goes_on table_of_old [] (front names old.sets rest more) (LIMIT - old.used))) same
@@ -177,6 +178,7 @@ module _ (names new : List Text) (macros : Macros) (old now : Machine) (more : L
       let used : IsUse names new macros old now more [] = record {
         events = Rule ∷ [];
         one = refl;
+        last = ([], refl);
         goes = inner_stays (expanding law) law h rest cs c e u d l a f f2 ∙ leads_none (Rule ∷ []) (still new macros now more);
         seen = with_rule names old old.notes.seen.items now.notes.seen.items [] (n ∙ sym (append-nil old.notes.seen.items));
       } in
@@ -206,6 +208,7 @@ module _ (names new : List Text) (macros : Macros) (old now : Machine) (more : L
       let used : IsUse names new macros old now more (token_of new hide t ∷ []) = record {
         events = predefined_events (held names old.sets h);
         one = one_predefined (held names old.sets h);
+        last = (takes MacroName (held names old.sets h), refl);
         goes = left_old (expanding law) [] (Stands (held names old.sets h) ∷ front names old.sets rest more) (ap (waiting names macros old.sets) p.gives.0) (front_old (slot.Token h) rest e)
             ∙ outer_predefined table_of_old law (held names old.sets h) kind text (front names old.sets rest more) (LIMIT - old.used) u (omega (arith, p.used, p.limit))
             ∙ ap (λ y. leads (y ∷ []) (predefined_events (held names old.sets h)) (goes_on table_of_old [] (front names old.sets rest more) (LIMIT - old.used - 2))) same
@@ -230,6 +233,7 @@ module _ (names new : List Text) (macros : Macros) (old now : Machine) (more : L
         let used : IsUse names new macros old now more [] = record {
           events = predefined_events (held names old.sets h);
           one = one_predefined (held names old.sets h);
+          last = (takes MacroName (held names old.sets h), refl);
           goes = inner_gives (expanding law) law h kind text rest cs c p.one e u d p.used p.limit same f f2 ∙ leads_none (predefined_events (held names old.sets h)) (still new macros now more);
           seen = with_rule names old old.notes.seen.items now.notes.seen.items (takes MacroName (held names old.sets h)) p.seen;
         } in

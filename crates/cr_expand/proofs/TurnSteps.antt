@@ -23,7 +23,7 @@ use Rattle.cr_expand.specs.Turns.{IsCallUse}
 use Rattle.cr_expand.specs.Wanted.{is_wanted}
 use Rattle.cr_expand.specs.Machines.{still, ahead, IsMachine, AreMacros, IsPut, IsAhead, BothFault, IsTurnStep, IsClosedAt, IsEntered, IsArgumentEnd, IsArgumentFault, IsSameRun}
 use Rattle.cr_expand.proofs.Kept.{known_later, args_known_later}
-use Rattle.cr_expand.proofs.Telling.{no_memory}
+use Rattle.cr_expand.proofs.Puttings.{no_memory_at_once}
 use Rattle.cr_expand.proofs.Sets.{grows_same}
 use Rattle.cr_expand.proofs.Going.{Outermost, expanding, seeking}
 use Rattle.cr_expand.proofs.Steps.{same_sets, left_by}
@@ -79,7 +79,7 @@ module _ (law : FollowsTheRules) (names new : List Text) (macros : Macros) (old 
 
   pub ended_fault : (more : List Token) (x : ExpandFault) → IsArgumentFault names macros old x → BothFault names macros old more x
   ended_fault more x f = elim f [
-    | inl p ↦ rw p (no_memory (still names macros old more), no_memory (ahead names macros old more))
+    | inl p ↦ rw p (no_memory_at_once (still names macros old more), no_memory_at_once (ahead names macros old more))
     | inr p ↦ complete_faults names names macros old old more mach known (grows_same names) (grows_same old.sets) refl law p.0 p.1 rest x e p.2 p.3 p.4
   ]
 

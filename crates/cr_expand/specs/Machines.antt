@@ -18,11 +18,11 @@ use Rattle.cr_expand.specs.declared.machine.Machine.{Machine}
 use Rattle.cr_expand.specs.declared.machine.ExpStep.{ExpStep}
 use Rattle.cr_expand.specs.declared.machine.ExpStep.TheVariants as step
 use Rattle.cr_expand.specs.declared.machine.TheConstants.{LIMIT}
-use Rattle.cr_macros.specs.Tokens.{Text, Token, token_of, MacroText, Event, Rule, Taken, Answer, Gave, Work, after, takes, with_name, both}
+use Rattle.cr_macros.specs.Tokens.{Text, Token, token_of, MacroText, Event, Rule, Taken, Answer, Gave, Stopped, Work, after, takes, with_name, both}
 use Rattle.cr_macros.specs.Definition.{text_of}
 use Rattle.cr_macros.specs.MacroTables.{Macros, macro_named, macro_text, table_of}
 use Rattle.cr_expand.specs.HideSets.{Sets, Grows}
-use Rattle.cr_expand.specs.Held.{held, all_held, all_args, hidden, IsKnown, AreKnown, IsNamed, AreTables, Faults, watch_of, noted}
+use Rattle.cr_expand.specs.Held.{held, all_held, all_args, hidden, IsKnown, AreKnown, IsNamed, AreTables, IsCause, Faults, watch_of, noted}
 use Rattle.cr_expand.specs.Frames.{Call}
 use Rattle.cr_expand.specs.Ahead.{Next, next_token}
 use Rattle.cr_expand.specs.Running.{Waiting, current, before, goes_on_by, goes_on, leads, put_for, needs_more}
@@ -97,10 +97,15 @@ uses [] = 0
 uses (Rule ∷ events) = 1 + uses events
 uses (Taken text place role ∷ events) = uses events
 
+-- A use of a rule tells that it was used last.
+abbrev pub EndsWithRule : List Event → Type 0
+EndsWithRule events = (roles : List Event) × (events ≡ roles ++ Rule ∷ [])
+
 -- Exactly one use of a rule leads from one machine to another, and gives these tokens of the result; its events are noted.
 pub record IsUse (names new : List Text) (macros : Macros) (old now : Machine) (more out : List Token) : Type 0 where
   pub events : List Event
   pub one : uses events ≡ 1
+  pub last : EndsWithRule events
   pub goes : still names macros old more ≡ leads out events (still new macros now more)
   pub seen : now.notes.seen.items ≡ old.notes.seen.items ++ noted (watch_of names old.notes) events
 
@@ -109,6 +114,7 @@ pub record IsPut (names new : List Text) (old now : Machine) (work : Work (List 
   pub list : List Held
   pub events : List Event
   pub one : uses events ≡ 1
+  pub last : EndsWithRule events
   pub gives : work (LIMIT - old.used) ≡ Gave (all_held new now.sets list) (LIMIT - now.used) events
   pub seen : now.notes.seen.items ≡ old.notes.seen.items ++ noted (watch_of names old.notes) events
   pub slots : now.slots.items ≡ tokens list ++ rest
@@ -262,9 +268,14 @@ IsTurnStep names new macros old now more None =
     (still names macros old more ≡ still new macros now more) × (now.notes.seen.items ≡ old.notes.seen.items) × (ahead names macros old more ≡ ahead new macros now more)
 IsTurnStep names new macros old now more (Some s) = IsStep names new macros old now more s × IsAhead names new macros old now more s
 
--- The fault is met in the expansion, and before the next token of its result.
+-- The work stopped by the cause that the fault tells, before any use of a rule was made; or there was no memory.
+abbrev pub FaultsAtOnce : {A : Type 0} → Answer A → ExpandFault → Type 0
+FaultsAtOnce (Gave a left events) e = e ≡ fault.OutOfMemory
+FaultsAtOnce (Stopped cause stopped) e = (IsCause cause e × (uses stopped ≡ 0)) ⊎ (e ≡ fault.OutOfMemory)
+
+-- The next use of a rule meets the fault, in the expansion, and before the next token of its result.
 abbrev pub BothFault : List Text → Macros → Machine → List Token → ExpandFault → Type 0
-BothFault names macros m more e = Faults (still names macros m more) e × Faults (ahead names macros m more) e
+BothFault names macros m more e = FaultsAtOnce (still names macros m more) e × FaultsAtOnce (ahead names macros m more) e
 
 -- A token is wanted only where no call waits, no more were said to be the last, and the next use can't be told without it; the
 -- end is only where all is used.

@@ -4,10 +4,9 @@ ghost use Rattle.cr_macros.specs.declared.fault.ExpandFault.{ExpandFault as TheF
 ghost use Rattle.cr_macros.specs.Tokens.{Text, Token};
 ghost use Rattle.cr_macros.specs.MacroTables.{Macros};
 ghost use Rattle.cr_expand.specs.HideSets.{Grows};
-ghost use Rattle.cr_expand.specs.Held.{Faults};
 ghost use Rattle.cr_expand.specs.Ahead.{NextFollowsTheRules};
 ghost use Rattle.cr_expand.specs.Feeding.{IsPutBack};
-ghost use Rattle.cr_expand.specs.Machines.{AreMacros, IsStep, IsAhead, IsWantedAt, IsOutKnown, IsSameRun, ahead};
+ghost use Rattle.cr_expand.specs.Machines.{AreMacros, IsStep, IsAhead, FaultsAtOnce, IsWantedAt, IsOutKnown, IsSameRun, ahead};
 ghost use Rattle.cr_expand.specs.Expanders.{left_over, IsRunning, IsFresh, IsFed, Steps, RunsOn, GivesTheExpansion};
 
 use crate::closing::Ahead;
@@ -108,8 +107,8 @@ impl Expander {
     /// token of the result, and what is left behind that token is a list that is expanded from then
     /// on. The macros are those of the steps before. A step adds at most 67,108,864 names, and keeps
     /// those that are there, whatever it answers; a token that it gives has one of the names.
-    /// `ArgCount`, `OpenCall`, `BadPaste` and `LimitMacros` come where expansion meets them; after a
-    /// fault it answers that fault again.
+    /// `ArgCount`, `OpenCall`, `BadPaste` and `LimitMacros` come where the next use of a rule meets
+    /// them; after a fault it answers that fault again.
     pub fn step(
         &mut self,
         macros: &MacroTable,
@@ -120,9 +119,9 @@ impl Expander {
         requires running { IsRunning names.old macros.now self.old }
         ensures step { self.old.fault ≡ None → IfOk result (λ s. Steps names.old names.new macros.now self.old self.new s) }
         ensures wanted { self.old.fault ≡ None → IfOk result (λ s. IsWantedAt names.old macros.now self.old.machine s) }
-        ensures faults { self.old.fault ≡ None → (more : List Token) → (self.old.machine.finished ≡ true → more ≡ []) → IfErr result (λ e. Faults (left_over names.old macros.now self.old more) e) }
+        ensures faults { self.old.fault ≡ None → (more : List Token) → (self.old.machine.finished ≡ true → more ≡ []) → IfErr result (λ e. FaultsAtOnce (left_over names.old macros.now self.old more) e) }
         ensures ahead { self.old.fault ≡ None → (more : List Token) → (self.old.machine.finished ≡ true → more ≡ []) → IfOk result (λ s. IsAhead names.old names.new macros.now self.old.machine self.new.machine more s) }
-        ensures ahead_faults { self.old.fault ≡ None → (more : List Token) → (self.old.machine.finished ≡ true → more ≡ []) → IfErr result (λ e. Faults (ahead names.old macros.now self.old.machine more) e) }
+        ensures ahead_faults { self.old.fault ≡ None → (more : List Token) → (self.old.machine.finished ≡ true → more ≡ []) → IfErr result (λ e. FaultsAtOnce (ahead names.old macros.now self.old.machine more) e) }
         ensures kept { IfErr result (λ e. self.new.fault ≡ Some e) }
         ensures stuck { (fault : TheFault) → self.old.fault ≡ Some fault → (result ≡ Err fault) × (self.new ≡ self.old) × (names.new ≡ names.old) }
         ensures running { IsRunning names.new macros.now self.new }

@@ -3,7 +3,7 @@ use Rattle.std.proofs.Common.{◌≡◌, ◌-◌, ℕ, List, [], ◌++◌, map, 
 use Rattle.cr_base.specs.declared.token.Place.{Place}
 use Rattle.cr_base.specs.declared.token.PpTok.{PpTok}
 use Rattle.cr_base.specs.declared.unit.Unit.{Unit}
-use Rattle.cr_macros.specs.Tokens.{Token, tokens_of, Answer, Gave, Stopped}
+use Rattle.cr_macros.specs.Tokens.{Token, tokens_of, Answer, Gave}
 use Rattle.cr_snapshot.specs.declared.known.KnownFile.{KnownFile}
 use Rattle.cr_expand.specs.declared.machine.TheConstants.{LIMIT}
 use Rattle.cr_preproc.specs.declared.conditional.Decision.{Decision}
@@ -13,30 +13,32 @@ use Rattle.cr_preproc.specs.declared.expansion.Use.TheVariants as use1
 use Rattle.cr_preproc.specs.declared.open_file.OpenFile.{OpenFile}
 use Rattle.cr_preproc.specs.declared.progress.Progress.{Progress}
 use Rattle.cr_preproc.specs.declared.turning.Doing.{Doing}
-use Rattle.cr_preproc.specs.Tasks.{End, State, Told, Reply, Ends, Task, Nothing, end_of, moved, events_of}
+use Rattle.cr_preproc.specs.Tasks.{End, State, Reply, Ends, Task, Nothing, go_on, at_place, moved, events_of}
 use Rattle.cr_preproc.specs.Search.{World}
 use Rattle.cr_preproc.specs.Runs.{runs, earlier}
 use Rattle.cr_preproc.specs.OpenFiles.{Reading, reading_of}
-use Rattle.cr_preproc.specs.Progressing.{state_of}
+use Rattle.cr_preproc.specs.Progressing.{state_of, IsTold}
 use Rattle.cr_preproc.specs.Expanding.{IsUsed, StopsAt, still_in, end_by}
 use Rattle.cr_preproc.specs.Leading.{Leads, decided}
-use Rattle.cr_preproc.specs.Turning.{doing_left, decision_left, EndsAlike, IsNext, IsWorking}
-use Rattle.cr_preproc.proofs.Leadings.{leads_from}
+use Rattle.cr_preproc.specs.Turning.{doing_left, decision_left, IsNext, IsWorking}
+use Rattle.cr_preproc.proofs.Leadings.{behind_none, leads_from}
+use Rattle.cr_preproc.proofs.Turns.{stop_ends}
 use Rattle.cr_preproc.proofs.ListsLeft.{decides_left, decides_end}
 
 -- The list stops, and the unit ends as its run does where that ends it.
-pub fails_alike : (w : World) (u : Unit) (r : Reading) (k : Task Nothing) (d : Decision) (hash : Place) (s : State) (given : List Token) (a : Answer (List Token)) (end : End) (f : Fault) (x y : Reply Nothing)
-    → StopsAt a end → end_by f ≡ moved hash end → x ≡ runs r.path r.run s → y ≡ Ends (earlier (end_by f) x) (events_of x) → EndsAlike (decides_left w u r k d hash s given a) y
-fails_alike w u r k d hash s given (Gave ts left told) end f x y h e same left_is = absurd h
-fails_alike w u r k d hash s given (Stopped why told) end f x y h e same left_is = (
-  earlier (moved hash (end_of why)) (runs r.path r.run s),
-  map Told told ++ events_of (runs r.path r.run s),
-  events_of (runs r.path r.run s),
-  refl,
-  left_is
+pub fails_next : (w : World) (u : Unit) (r : Reading) (k : Task Nothing) (d : Decision) (hash : Place) (p q : Progress) (s : State) (given : List Token) (a : Answer (List Token)) (end : End) (f : Fault) (x y : Reply Nothing)
+    → StopsAt a end → end_by f ≡ moved hash end → x ≡ runs r.path r.run s → y ≡ Ends (earlier (end_by f) x) (events_of x) → IsTold p q [] → Leads 0 p q (decides_left w u r k d hash s given a) y
+fails_next w u r k d hash p q s given a end f x y h e same left_is told1 = record {
+  events = [];
+  size = refl;
+  goes =
+      ap (λ z. decision_left w u r k s (go_on (at_place hash z) (λ more. decided d hash r.open_ifs (given ++ more)))) (stop_ends s a end h)
+      ∙ sym (left_is
       ∙ ap {A = Reply Nothing} {B = Reply Nothing} (λ z. Ends (earlier (end_by f) z) (events_of z)) same
-      ∙ ap {A = End} {B = Reply Nothing} (λ z. Ends (earlier z (runs r.path r.run s)) (events_of (runs r.path r.run s))) (e ∙ ap (moved hash) (sym h)),
-)
+      ∙ ap {A = End} {B = Reply Nothing} (λ z. Ends (earlier z (runs r.path r.run s)) (events_of (runs r.path r.run s))) e)
+      ∙ sym (behind_none y);
+  told = told1;
+}
 
 -- The list is at its end, where a use of a rule changes nothing.
 pub ends_next : (w : World) (u : Unit) (files : List KnownFile) (p q v : Progress) (f g : OpenFile) (e e2 : Expansion) (d : Decision) (hash : Place) (given us : List PpTok) (n : ℕ) (next : Doing)

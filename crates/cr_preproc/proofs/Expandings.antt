@@ -15,8 +15,8 @@ use Rattle.cr_macros.specs.Tokens.{Text, Event as Telling, Rule, Taken, tokens_o
 use Rattle.cr_macros.specs.Definition.{text_of}
 use Rattle.cr_expand.specs.GoodMacros.{KeepsMacros}
 use Rattle.cr_expand.specs.HideSets.{Grows}
-use Rattle.cr_expand.specs.Held.{Watch, noted, noted_one, watch_of, IsNamed as IsNameKnown, Faults}
-use Rattle.cr_expand.specs.Machines.{AreMacros, IsSameRun}
+use Rattle.cr_expand.specs.Held.{Watch, noted, noted_one, watch_of, IsNamed as IsNameKnown}
+use Rattle.cr_expand.specs.Machines.{AreMacros, IsSameRun, FaultsAtOnce}
 use Rattle.cr_expand.specs.Held.{IsCause}
 use Rattle.cr_expand.specs.Expanders.{plain, IsRunning, runs_by}
 use Rattle.cr_expand.specs.declared.expander.Expander.{Expander}
@@ -34,6 +34,7 @@ use Rattle.cr_preproc.specs.Progressing.{state_of, kept, IsTold, IsProgress}
 use Rattle.cr_preproc.specs.declared.expansion.Expansion.{Expansion}
 use Rattle.cr_preproc.specs.declared.expansion.Fault.{Fault}
 use Rattle.cr_preproc.specs.Expanding.{IsNoted, IsKept, IsExpanding, IsFaultOf, StopsAt, end_by}
+use Rattle.cr_preproc.proofs.ToldByUses.{told_none}
 use Rattle.cr_preproc.proofs.NamesGrow.{longer, tokens_later, all_named_later, known_later}
 
 -- the places that are still to be kept come behind what is kept
@@ -176,9 +177,9 @@ stops_by (OpenCall site) x f e k = sym (subst (λ y. IsFaultOf y f) e k)
 stops_by (BadPaste site) x f e k = sym (subst (λ y. IsFaultOf y f) e k)
 stops_by Over x f e k = sym (subst (λ y. IsFaultOf y f) e k)
 
-pub stops_at : {A : Type 0} (r : Answer A) (x : ExpandFault) (f : Fault) → Faults r x → IsFaultOf x f → StopsAt r (end_by f)
+pub stops_at : {A : Type 0} (r : Answer A) (x : ExpandFault) (f : Fault) → FaultsAtOnce r x → IsFaultOf x f → StopsAt r (end_by f)
 stops_at (Gave a left events) x f e k = subst (λ y. IsFaultOf y f) e k
-stops_at (Stopped why events) x f (inl e) k = stops_by why x f e k
+stops_at (Stopped why events) x f (inl e) k = (stops_by why x f e.0 k, told_none events e.1)
 stops_at (Stopped why events) x f (inr e) k = absurd (subst (λ y. IsFaultOf y f) e k)
 
 pub tokens_are_named : (names : List Text) (ts : List PpTok) → AreNamed names ts → All (IsTokenNamed names) ts

@@ -17,7 +17,7 @@ use Rattle.cr_snapshot.specs.IncludeSearch.{candidates}
 use Rattle.cr_snapshot.specs.declared.known.KnownFile.{KnownFile}
 use Rattle.cr_expand.specs.Expanders.{plain}
 use Rattle.cr_expand.specs.GoodMacros.{KeepsMacros}
-use Rattle.cr_expand.specs.Machines.{uses}
+use Rattle.cr_expand.specs.Machines.{EndsWithRule}
 use Rattle.cr_expand.specs.Running.{leads}
 use Rattle.cr_expand.specs.declared.machine.TheConstants.{LIMIT}
 use Rattle.cr_preproc.specs.declared.expansion.Expansion.{Expansion}
@@ -26,19 +26,20 @@ use Rattle.cr_preproc.specs.declared.expansion.Use.TheVariants as use1
 use Rattle.cr_preproc.specs.declared.open_file.OpenFile.{OpenFile}
 use Rattle.cr_preproc.specs.declared.progress.Progress.{Progress}
 use Rattle.cr_preproc.specs.declared.turning.Doing.{Doing}
-use Rattle.cr_preproc.specs.Tasks.{End, Event, Told, State, Reply, Goes, Ends, Task, Nothing, Done, behind, go_on, ◌>>>◌, tell, marks, from_answer, at_place, end_of, moved}
+use Rattle.cr_preproc.specs.Tasks.{End, Event, Told, State, Reply, Goes, Ends, Task, Nothing, Done, behind, go_on, ◌>>>◌, tell, marks, from_answer, at_place, end_of, told_by_uses, moved}
 use Rattle.cr_preproc.specs.Directives.{Opening, Header, all_marks, blank_of, if_last, to_greater, angled, header_name, site_of, opens, includes_expanded}
 use Rattle.cr_preproc.specs.Preprocessing.{does_file}
 use Rattle.cr_preproc.specs.Search.{World}
 use Rattle.cr_preproc.specs.OpenFiles.{Reading, reading_of, IsOpen}
-use Rattle.cr_preproc.specs.Progressing.{state_of, IsProgress}
+use Rattle.cr_preproc.specs.Progressing.{state_of, IsProgress, IsTold}
 use Rattle.cr_preproc.specs.Seen.{IsNamed, AreNamed}
-use Rattle.cr_preproc.specs.Expanding.{IsUsed, IsNoted, StopsAt, still_in, ended_by, end_by}
+use Rattle.cr_preproc.specs.Expanding.{IsUsed, IsOneUse, IsNoted, StopsAt, still_in, ended_by, end_by}
 use Rattle.cr_preproc.specs.Leading.{Leads, list_left, includes_given}
-use Rattle.cr_preproc.specs.Turning.{file_goes, directed_left, EndsSo, IsWorking, IsDoing}
+use Rattle.cr_preproc.specs.Turning.{file_goes, directed_left, IsWorking, IsDoing}
 use Rattle.cr_preproc.proofs.Frames.{behind_behind, behind_then}
 use Rattle.cr_preproc.proofs.Leadings.{behind_none}
 use Rattle.cr_preproc.proofs.OpenLater.{tokens_later, reading_later, open_later}
+use Rattle.cr_preproc.proofs.ToldByUses.{told_uses}
 use Rattle.cr_preproc.proofs.Turns.{with_used, used_told, told_steps, noted_state, stop_ends}
 
 -- Nothing that is done with the list reads which names are hidden from its tokens.
@@ -89,13 +90,13 @@ tokens_behind names [] t = refl
 tokens_behind names (x ∷ xs) t = ap {A = List Token} (λ l. token_of names [] x ∷ l) (tokens_behind names xs t)
 
 -- what comes behind the first tokens and events of a list
-pub list_behind : {A : Type 0} (hash : Place) (s : State) (given out : List Token) (told : List Telling) (a : Answer (List Token)) (k : List Token → Task A)
+pub list_behind : {A : Type 0} (hash : Place) (s : State) (given out : List Token) (told : List Telling) (a : Answer (List Token)) (k : List Token → Task A) → EndsWithRule told
     → list_left hash s given (leads out told a) k ≡ behind (map Told told) (list_left hash s (given ++ out) a k)
-list_behind hash s given out told (Gave ts left more) k =
+list_behind hash s given out told (Gave ts left more) k h =
     ap (λ l. behind (map Told (told ++ more)) (k l (record s { work = left }))) (sym (append_assoc given out ts))
     ∙ ap (λ es. behind es (k ((given ++ out) ++ ts) (record s { work = left }))) (map-append Told told more)
     ∙ sym (behind_behind (map Told told) (map Told more) (k ((given ++ out) ++ ts) (record s { work = left })))
-list_behind hash s given out told (Stopped why more) k = ap (Ends (moved hash (end_of why))) (map-append Told told more)
+list_behind hash s given out told (Stopped why more) k h = ap (Ends (moved hash (end_of why))) (ap (map Told) (told_uses told more h) ∙ map-append Told told (told_by_uses more))
 
 -- what is left depends on what was given only by what it is for
 pub list_same : {A : Type 0} (hash : Place) (s : State) (given other : List Token) (a : Answer (List Token)) (k : List Token → Task A) → ((ts : List Token) → k (given ++ ts) ≡ k (other ++ ts))
@@ -147,7 +148,7 @@ include_left w u p r k e ts hash =
 
 -- A use of a rule in the list.
 module _ (law : KeepsMacros) (w : World) (u : Unit) (files : List KnownFile) (p q : Progress) (file : OpenFile) (told : List Telling) (e f : Expansion) (hash : Place) (ts : List PpTok) (good : IsProgress p) (o : IsOpen p.names files file)
-    (named : AreNamed p.names ts) (noted : IsNoted p q told) (one : uses told ≡ 1) where
+    (named : AreNamed p.names ts) (noted : IsNoted p q told) (one : IsOneUse told) where
   abbrev r : Reading
   r = reading_of p.names files file
 
@@ -161,10 +162,10 @@ module _ (law : KeepsMacros) (w : World) (u : Unit) (files : List KnownFile) (p 
       → Leads 1 p q (include_left w u p r k e ts hash) (include_left w u q (reading_of q.names files file) k f us hash)
   include_leads out us h same k = record {
     events = map Told told;
-    size = told_steps told ∙ one;
+    size = told_steps told ∙ one.0;
     goes =
         ap (λ a. go_on (list_left hash (state_of p) (tokens_of p.names ts) a for1) (next k)) h
-        ∙ ap (λ x. go_on x (next k)) (list_behind hash (state_of p) (tokens_of p.names ts) out told (still_in q f) for1)
+        ∙ ap (λ x. go_on x (next k)) (list_behind hash (state_of p) (tokens_of p.names ts) out told (still_in q f) for1 one.1)
         ∙ behind_then (map Told told) (list_left hash (state_of p) (tokens_of p.names ts ++ out) (still_in q f) for1) (next k)
         ∙ ap (behind (map Told told)) (sym now);
     told = noted.told;
@@ -224,13 +225,14 @@ include_ended w u files p file e hash ts n h k = record {
   next d = file_goes w u (reading_of p.names files file) file.open_ifs [] >>> λ n. k
 
 -- the list ends the unit
-pub include_fails : (w : World) (u : Unit) (files : List KnownFile) (p : Progress) (file : OpenFile) (e : Expansion) (hash : Place) (ts : List PpTok) (end : End) → StopsAt (still_in p e) end → (k : Task Nothing)
-    → EndsSo (moved hash end) (include_left w u p (reading_of p.names files file) k e ts hash)
-include_fails w u files p file e hash ts end h k =
-    let x = stop_ends (state_of p) (still_in p e) end h in (
-      x.0,
-      ap (λ y. go_on (go_on (at_place hash y) (λ more. includes_given w u (does_file w u file.levels) file.path hash (tokens_of p.names ts ++ more))) (λ d. file_goes w u (reading_of p.names files file) file.open_ifs [] >>> λ n. k)) x.1,
-    )
+pub include_fails : (w : World) (u : Unit) (files : List KnownFile) (p q : Progress) (file : OpenFile) (e : Expansion) (hash : Place) (ts : List PpTok) (end : End) → StopsAt (still_in p e) end → IsTold p q [] → (k : Task Nothing)
+    → Leads {A = Nothing} 0 p q (include_left w u p (reading_of p.names files file) k e ts hash) (Ends (moved hash end) [])
+include_fails w u files p q file e hash ts end h told1 k = record {
+  events = [];
+  size = refl;
+  goes = ap (λ y. go_on (go_on (at_place hash y) (λ more. includes_given w u (does_file w u file.levels) file.path hash (tokens_of p.names ts ++ more))) (λ d. file_goes w u (reading_of p.names files file) file.open_ifs [] >>> λ n. k)) (stop_ends (state_of p) (still_in p e) end h);
+  told = told1;
+}
 
 -- the list is at its end, where a use of a rule changes nothing
 pub include_ends : (w : World) (u : Unit) (files : List KnownFile) (p q : Progress) (file : OpenFile) (e f : Expansion) (hash : Place) (ts : List PpTok) (n : ℕ) → n ≡ f.expander.machine.used → IsUsed p q e f use1.Ends → (k : Task Nothing)

@@ -23,6 +23,7 @@ pub mod OpenedFiles
 pub mod NamesGrow
 pub mod OpenLater
 mod Rows
+mod ToldByUses
 mod RunsAhead
 mod Expandings
 pub mod Leadings

@@ -13,7 +13,7 @@ use Rattle.cr_cond.specs.Value.{value_of, numbered}
 use Rattle.cr_macros.specs.Tokens.{Text, Token, token_of, tokens_of, Event as Telling, Rule, Taken, Answer, Gave, Stopped}
 use Rattle.cr_expand.specs.GoodMacros.{KeepsMacros}
 use Rattle.cr_expand.specs.Expanders.{plain}
-use Rattle.cr_expand.specs.Machines.{uses}
+use Rattle.cr_expand.specs.Machines.{uses, EndsWithRule}
 use Rattle.cr_expand.specs.Running.{leads}
 use Rattle.cr_expand.specs.declared.machine.TheConstants.{LIMIT}
 use Rattle.cr_preproc.specs.declared.conditional.Decision.{Decision}
@@ -21,7 +21,7 @@ use Rattle.cr_preproc.specs.declared.expansion.Fault.{Fault}
 use Rattle.cr_preproc.specs.declared.open_ifs.OpenIf.{OpenIf}
 use Rattle.cr_preproc.specs.declared.progress.Progress.{Progress}
 use Rattle.cr_preproc.specs.declared.progress.TheConstants.{MOST_TOKENS}
-use Rattle.cr_preproc.specs.Tasks.{End, Event, Told, State, Reply, Goes, Ends, Task, Nothing, Done, behind, go_on, ◌>>>◌, only, tell, marks, at_place, from_answer, end_of, moved, events_of}
+use Rattle.cr_preproc.specs.Tasks.{End, Event, Told, State, Reply, Goes, Ends, Task, Nothing, Done, behind, go_on, ◌>>>◌, only, tell, marks, at_place, from_answer, end_of, told_by_uses, moved, events_of}
 use Rattle.cr_preproc.specs.PreprocessingRun.{is_step, steps}
 use Rattle.cr_preproc.specs.Search.{World}
 use Rattle.cr_preproc.specs.Runs.{runs, earlier, after_run}
@@ -29,20 +29,21 @@ use Rattle.cr_preproc.specs.Conditionals.{lexeme_of, is_true, list_value}
 use Rattle.cr_preproc.specs.OpenFiles.{Reading, reads_file}
 use Rattle.cr_preproc.specs.Progressing.{state_of, IsProgress}
 use Rattle.cr_preproc.specs.Seen.{macros_of, IsNamed, AreNamed}
-use Rattle.cr_preproc.specs.Expanding.{IsNoted, end_by}
+use Rattle.cr_preproc.specs.Expanding.{IsOneUse, IsNoted, end_by}
 use Rattle.cr_preproc.specs.Leading.{Leads, list_left, decided, chosen, IsDecided}
 use Rattle.cr_preproc.specs.Turning.{file_goes, decision_left}
 use Rattle.cr_preproc.proofs.Frames.{behind_behind, then_assoc}
+use Rattle.cr_preproc.proofs.ToldByUses.{told_uses}
 use Rattle.cr_preproc.proofs.Leadings.{behind_none, leads_from, leads_to, leads_go, leads_inside, same_on}
 
 -- what was told and given comes first
-list_leads : {A : Type 0} (hash : Place) (s : State) (given ts : List Token) (told : List Telling) (a : Answer (List Token)) (k : List Token → Task A)
+list_leads : {A : Type 0} (hash : Place) (s : State) (given ts : List Token) (told : List Telling) (a : Answer (List Token)) (k : List Token → Task A) → EndsWithRule told
     → list_left hash s given (leads ts told a) k ≡ behind (map Told told) (list_left hash s (given ++ ts) a k)
-list_leads hash s given ts told (Gave us left more) k =
+list_leads hash s given ts told (Gave us left more) k h =
     ap (λ es. behind es (k (given ++ (ts ++ us)) (record s { work = left }))) (map-append Told told more)
     ∙ sym (behind_behind (map Told told) (map Told more) (k (given ++ (ts ++ us)) (record s { work = left })))
     ∙ ap (λ l. behind (map Told told) (behind (map Told more) (k l (record s { work = left })))) (sym (append_assoc given ts us))
-list_leads hash s given ts told (Stopped why more) k = ap (Ends (moved hash (end_of why))) (map-append Told told more)
+list_leads hash s given ts told (Stopped why more) k h = ap (Ends (moved hash (end_of why))) (ap (map Told) (told_uses told more h) ∙ map-append Told told (told_by_uses more))
 
 -- hide sets are not read where a list decides
 
@@ -108,16 +109,16 @@ decides_left w u r k d hash s given answer = decision_left w u r k s (list_left 
 
 -- A use of a rule was made in the list.
 pub decides_on : (w : World) (u : Unit) (r : Reading) (k : Task Nothing) (d : Decision) (hash : Place) (p q : Progress) (s : State) (given now ts : List Token) (told : List Telling) (a b : Answer (List Token))
-    → IsNoted p q told → uses told ≡ 1 → a ≡ leads ts told b → map plain (given ++ ts) ≡ map plain now
+    → IsNoted p q told → IsOneUse told → a ≡ leads ts told b → map plain (given ++ ts) ≡ map plain now
     → Leads 1 p q (decides_left w u r k d hash s given a) (decides_left w u r k d hash s now b)
 decides_on w u r k d hash p q s given now ts told a b noted one e same = leads_go 1 p q _ _ (λ cs. file_goes w u r cs r.run >>> λ n. k) (leads_inside 1 p q r.path r.run s _ _ list) where
   list : Leads 1 p q (list_left hash s given a (decided d hash r.open_ifs)) (list_left hash s now b (decided d hash r.open_ifs))
   list = record {
     events = map Told told;
-    size = steps_told told ∙ one;
+    size = steps_told told ∙ one.0;
     goes =
         ap (λ x. list_left hash s given x (decided d hash r.open_ifs)) e
-        ∙ list_leads hash s given ts told b (decided d hash r.open_ifs)
+        ∙ list_leads hash s given ts told b (decided d hash r.open_ifs) one.1
         ∙ ap (behind (map Told told)) (list_same hash s (given ++ ts) now b (decided d hash r.open_ifs) (decided_same d hash r.open_ifs) same);
     told = noted.told;
   }

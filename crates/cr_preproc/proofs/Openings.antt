@@ -1,5 +1,5 @@
 -- Files that are included are looked for and opened.
-use Rattle.std.proofs.Common.{◌≡◌, ℕ, zero, suc, SomeIff, ◌-◌, ◌+◌, ◌<◌, ◌≤◌, Bool, true, false, cond, List, [], ◌∷◌, ◌++◌, length, map, refl, sym, ap, ◌∙◌, subst, arith, append-nil, Option, Some, None}
+use Rattle.std.proofs.Common.{◌≡◌, ℕ, zero, suc, SomeIff, ◌-◌, ◌+◌, ◌<◌, ◌≤◌, Bool, true, false, cond, List, [], ◌∷◌, ◌++◌, length, map, refl, sym, ap, ◌∙◌, subst, arith, append-nil, Option, Some, None, inl}
 use Rattle.std.specs.Prelude.{nat_lt}
 use Rattle.std.proofs.lemmas.Bool.Decides.{nat_tests}
 use Rattle.cr_base.specs.NameTable.{IsDistinct}
@@ -33,8 +33,6 @@ use Rattle.cr_preproc.specs.Leading.{Leads}
 use Rattle.cr_preproc.specs.Turning.{IsTurned, IsOpened, IsWorking, WantsNoFile, doing_left, enters}
 use Rattle.cr_preproc.proofs.Expandings.{progress_more, state_more}
 use Rattle.cr_preproc.proofs.Frames.{behind_then}
-use Rattle.cr_preproc.specs.Expanding.{end_by}
-use Rattle.cr_preproc.proofs.Turns.{leads_end}
 use Rattle.cr_preproc.proofs.Leadings.{behind_none, leads_same, leads_then, leads_from, leads_to, leads_go}
 use Rattle.cr_preproc.proofs.NamesGrow.{tokens_later}
 use Rattle.cr_preproc.proofs.OpenLater.{reading_later, open_later}
@@ -158,7 +156,6 @@ opened_behind w u files p q m n (turned.Ends fault) good l v k = (leads_then 0 0
 opened_behind w u files p q m n (turned.Needs paths) good l v k = absurd v
 opened_behind w u files p q m n turned.Steps good l v k = absurd k
 opened_behind w u files p q m n turned.Closes good l v k = absurd k
-opened_behind w u files p q m n turned.Fails good l v k = absurd k
 
 -- with as many levels of includes as the file may have open in it
 pub enters_none : (w : World) (u : Unit) (levels : Option ℕ) → levels ≡ None → enters w u levels ≡ does_file w u 0
@@ -176,7 +173,6 @@ pub wants_none : (t : Turned) → ((paths : _) → t ≡ turned.Needs paths → 
 wants_none turned.Steps h = tt
 wants_none turned.Goes h = tt
 wants_none turned.Closes h = tt
-wants_none turned.Fails h = tt
 wants_none (turned.Opens f) h = tt
 wants_none (turned.Needs paths) h = h paths refl
 wants_none (turned.Ends fault) h = tt
@@ -221,11 +217,10 @@ module _ (w : World) (u : Unit) (files : List KnownFile) (p q : Progress) (f : O
       → (t : Turned) → WantsNoFile t → IsOpened w u files p q m t → IsTurned w u files p q f f d doing.Reads t
   looked d e turned.Goes v h = let l = looked_goes h in ((λ k. leads_from 0 p q _ _ _ (e k) (l.0 k)), l.1)
   looked d e (turned.Opens x) v h = let l = looked_opens x h in ((λ k. leads_from 0 p q _ _ _ (e k) (l.0 k)), l.1, l.2, l.3, l.4, l.5, l.6)
-  looked d e (turned.Ends fault) v h = ((λ k. leads_end 0 p q _ (end_by fault) (leads_from 0 p q _ _ _ (e k) (leads_go 0 p q _ _ (behind_it k p.names) h.0))), h.1)
+  looked d e (turned.Ends fault) v h = (0, inl refl, (λ k. leads_from 0 p q _ _ _ (e k) (leads_go 0 p q _ _ (behind_it k p.names) h.0)), h.1)
   looked d e (turned.Needs paths) v h = absurd v
   looked d e turned.Steps v h = absurd h
   looked d e turned.Closes v h = absurd h
-  looked d e turned.Fails v h = absurd h
 
 no_tokens : (names : List Text) (ts : List PpTok) → tokens_of names ts ≡ [] → ts ≡ []
 no_tokens names [] e = refl

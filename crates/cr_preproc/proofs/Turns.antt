@@ -1,5 +1,5 @@
 -- What a use of a rule of an expansion changes, and what is left behind a run.
-use Rattle.std.proofs.Common.{◌≡◌, ℕ, ◌+◌, ◌-◌, ◌<◌, ◌≤◌, Bool, true, false, cond, List, [], ◌∷◌, ◌++◌, map, length, refl, ap, sym, ◌∙◌, subst, arith, append-nil, Option, Some, None}
+use Rattle.std.proofs.Common.{◌≡◌, ℕ, ◌+◌, ◌-◌, ◌<◌, ◌≤◌, Bool, true, false, cond, List, [], ◌∷◌, ◌++◌, map, length, refl, ap, sym, ◌∙◌, subst, arith, append-nil, Option, Some, None, inr}
 use Rattle.std.specs.Prelude.{nat_lt}
 use Rattle.std.proofs.lemmas.Bool.Decides.{nat_tests}
 use Rattle.std.proofs.lemmas.List.Sums.{sum_by-cons}
@@ -25,16 +25,16 @@ use Rattle.cr_preproc.specs.declared.turning.Turned.{Turned}
 use Rattle.cr_preproc.specs.declared.turning.Turned.TheVariants as turned
 use Rattle.cr_preproc.specs.declared.expansion.Use.TheVariants as use1
 use Rattle.cr_preproc.specs.RunTurns.{IsGiving}
-use Rattle.cr_preproc.specs.Tasks.{End, Limit, Over, Tokens, Event, Told, Final, State, Reply, Goes, Ends, Task, Nothing, Done, behind, go_on, ◌>>>◌, gives, from_answer, end_of}
+use Rattle.cr_preproc.specs.Tasks.{End, Limit, Over, Tokens, Event, Told, Final, State, Reply, Goes, Ends, Task, Nothing, Done, behind, go_on, ◌>>>◌, gives, from_answer, end_of, told_by_uses}
 use Rattle.cr_preproc.specs.Lines.{line_of}
 use Rattle.cr_preproc.specs.PreprocessingRun.{is_step, steps}
 use Rattle.cr_preproc.specs.Runs.{run_in}
 use Rattle.cr_preproc.specs.Search.{World}
 use Rattle.cr_preproc.specs.OpenFiles.{Reading, reading_of, IsOpen}
 use Rattle.cr_preproc.specs.Progressing.{state_of, IsProgress, IsTold, Did}
-use Rattle.cr_preproc.specs.Expanding.{IsUsed, IsNoted, IsExpanding, StopsAt, table_for, ahead_in, still_in}
-use Rattle.cr_preproc.specs.Leading.{Leads, run_left}
-use Rattle.cr_preproc.specs.Turning.{carried, then_left, doing_left, ended_behind, EndsSo, IsWorking, IsTurned}
+use Rattle.cr_preproc.specs.Expanding.{IsUsed, IsOneUse, IsNoted, IsExpanding, StopsAt, table_for, ahead_in, still_in, end_by}
+use Rattle.cr_preproc.specs.Leading.{Leads, given_on, run_left}
+use Rattle.cr_preproc.specs.Turning.{carried, then_left, doing_left, ended_behind, IsWorking, IsTurned}
 use Rattle.cr_preproc.proofs.Frames.{behind_then}
 use Rattle.cr_preproc.proofs.Leadings.{behind_none, leads_then, leads_to, did_leads}
 use Rattle.cr_preproc.proofs.NamesGrow.{text_later}
@@ -97,23 +97,21 @@ ended_over (then.Fails f) limit = refl
 pub leads_on : (n : ℕ) (p q : Progress) (w : World) (u : Unit) (r : Reading) (k : Task Nothing) (next : Then) (x y : Reply Nothing) → Leads n p q x y → Leads n p q (then_left w u r k next x) (then_left w u r k next y)
 leads_on n p q w u r k next x y h = record { events = h.events; size = h.size; goes = ap (then_left w u r k next) h.goes ∙ then_behind w u r k next h.events y; told = h.told }
 
--- what leads to an end
-pub leads_end : (n : ℕ) (p q : Progress) (x : Reply Nothing) (end : End) → Leads n p q x (Ends end []) → EndsSo end x
-leads_end n p q x end h = (h.events ++ [], h.goes)
-
-pub stop_ends : {A : Type 0} (s : State) (a : Answer A) (end : End) → StopsAt a end → (es : List Event) × (from_answer s a ≡ Ends end es)
+-- expansion that stops before a use of a rule ends the unit
+pub stop_ends : {A : Type 0} (s : State) (a : Answer A) (end : End) → StopsAt a end → from_answer s a ≡ Ends end []
 stop_ends s (Gave a left events) end h = absurd h
-stop_ends s (Stopped why events) end h = (map Told events, ap (λ e. Ends e (map Told events)) h)
-
-run_stops : (table : Table) (s : State) (a : Answer (Option Next)) (end : End) → StopsAt a end → EndsSo end (run_left table s a)
-run_stops table s (Gave a left events) end h = absurd h
-run_stops table s (Stopped why events) end h = (map Told events, ap (λ e. Ends e (map Told events)) h)
+stop_ends {A} s (Stopped why events) end h =
+    ap {A = End} {B = Reply A} (λ e. Ends e (map Told (told_by_uses events))) h.0 ∙ ap {A = List Telling} {B = Reply A} (λ es. Ends end (map Told es)) h.1
 
 -- a run that stops ends the unit
-pub run_fails : (w : World) (u : Unit) (r : Reading) (k : Task Nothing) (next : Then) (table : Table) (s : State) (a : Answer (Option Next)) (end : End) → StopsAt a end
-    → EndsSo (ended_behind next end) (then_left w u r k next (run_left table s a))
-run_fails w u r k next table s a end h =
-    let x = run_stops table s a end h in (x.0, ap (then_left w u r k next) x.1 ∙ then_ends w u r k next end x.0)
+pub run_fails : (w : World) (u : Unit) (r : Reading) (k : Task Nothing) (next : Then) (p q : Progress) (table : Table) (s : State) (a : Answer (Option Next)) (end : End) → StopsAt a end → IsTold p q []
+    → Leads {A = Nothing} 0 p q (then_left w u r k next (run_left table s a)) (Ends (ended_behind next end) [])
+run_fails w u r k next p q table s a end h told1 = record {
+  events = [];
+  size = refl;
+  goes = ap (λ x. then_left w u r k next (go_on x (given_on table))) (stop_ends s a end h) ∙ then_ends w u r k next end [];
+  told = told1;
+}
 
 abbrev with_parts : (Text → Option MacroText) → List Text → ℕ → ℕ → ℕ → State
 with_parts macro once work reading room = record { macro = macro; once = once; work = work; reading = reading; room = room }
@@ -141,7 +139,7 @@ module _ (law : KeepsMacros) (p q : Progress) (told : List Telling) (good : IsPr
 
 -- A use of a rule in a run.
 module _ (law : KeepsMacros) (w : World) (u : Unit) (files : List KnownFile) (p q : Progress) (file : OpenFile) (told : List Telling) (e f : Expansion) (next : Then) (good : IsProgress p) (o : IsOpen p.names files file)
-    (x : IsExpanding p e) (noted : IsNoted p q told) (one : uses told ≡ 1) (same : f.expander.machine.file ≡ e.expander.machine.file) where
+    (x : IsExpanding p e) (noted : IsNoted p q told) (one : IsOneUse told) (same : f.expander.machine.file ≡ e.expander.machine.file) where
   abbrev before : Task Nothing → Reply Nothing
   before k = doing_left w u p (reading_of p.names files file) k (doing.Expands e next)
 
@@ -159,10 +157,10 @@ module _ (law : KeepsMacros) (w : World) (u : Unit) (files : List KnownFile) (p 
       → Leads 1 p (with_used q n) (before k) (doing_left w u (with_used q n) (reading_of q.names files file) k (doing.Expands f next))
   run_goes n h k = record {
     events = map Told told;
-    size = told_steps told ∙ one;
+    size = told_steps told ∙ one.0;
     goes =
         ap (λ a. then_left w u (reading_of p.names files file) k next (run_left (table_for p e) (state_of p) a)) h
-        ∙ ap (then_left w u (reading_of p.names files file) k next) (run_after (table_for p e) (state_of p) told (ahead_in q f))
+        ∙ ap (then_left w u (reading_of p.names files file) k next) (run_after (table_for p e) (state_of p) told (ahead_in q f) one.1)
         ∙ then_behind w u (reading_of p.names files file) k next (map Told told) (run_left (table_for p e) (state_of p) (ahead_in q f))
         ∙ ap (behind (map Told told)) (sym now);
     told = noted_told law p q told good noted n;
@@ -179,7 +177,7 @@ module _ (law : KeepsMacros) (w : World) (u : Unit) (files : List KnownFile) (p 
     pub run_gave : (k : Task Nothing) → Leads 1 p (with_used q n) (before k) (then_left w u (reading_of p.names files file) k next ((gives (t ∷ []) >>> λ d. run_in (table_for p e) rest) (state_of (with_used q n))))
     run_gave k = record {
       events = map Told told;
-      size = told_steps told ∙ one;
+      size = told_steps told ∙ one.0;
       goes =
           ap (λ a. then_left w u (reading_of p.names files file) k next (run_left (table_for p e) (state_of p) a)) h
           ∙ then_behind w u (reading_of p.names files file) k next (map Told told) (on (record (state_of p) { work = LIMIT - n }))
@@ -190,17 +188,15 @@ module _ (law : KeepsMacros) (w : World) (u : Unit) (files : List KnownFile) (p 
       on = gives (t ∷ []) >>> λ d. run_in (table_for p e) rest
 
     -- there is no room for it
-    pub run_full : (k : Task Nothing) → length q.tokens.items ≡ MOST_TOKENS → EndsSo (Over Tokens) (before k)
+    pub run_full : (k : Task Nothing) → length q.tokens.items ≡ MOST_TOKENS → Leads {A = Nothing} 1 p (with_used q n) (before k) (Ends (Over Tokens) [])
     run_full k full =
-        let l = run_gave k in
         let left : nat_lt (MOST_TOKENS - length q.tokens.items) 1 ≡ true = grind (arith, nat_tests) in
-        let s = state_of (with_used q n) in (
-          l.events ++ [],
-          l.goes
-              ∙ ap (λ b. behind l.events (then_left w u (reading_of p.names files file) k next (go_on (cond b (Ends (Over Tokens) []) (Goes Done (record s { room = (MOST_TOKENS - length q.tokens.items) - 1 }) (final t))) (λ d. run_in (table_for p e) rest)))) left
-              ∙ ap (behind l.events) (then_ends w u (reading_of p.names files file) k next (Over Tokens) [])
-              ∙ ap (λ end. Ends end (l.events ++ [])) (ended_over next Tokens),
-        ) where
+        let s = state_of (with_used q n) in
+        leads_to 1 p (with_used q n) _ _ _
+        (ap (λ b. then_left w u (reading_of p.names files file) k next (go_on (cond b (Ends (Over Tokens) []) (Goes Done (record s { room = (MOST_TOKENS - length q.tokens.items) - 1 }) (final t))) (λ d. run_in (table_for p e) rest))) left
+        ∙ then_ends w u (reading_of p.names files file) k next (Over Tokens) []
+        ∙ ap (λ end. Ends end []) (ended_over next Tokens))
+        (run_gave k) where
           final : Token → List Event
           final t = map {A = Token} (λ x. Final x) (t ∷ [])
 
@@ -265,14 +261,16 @@ module _ (law : KeepsMacros) (w : World) (u : Unit) (files : List KnownFile) (p 
     run_working files p q v file used.1 f next n o line used.8 used.9 (used.10 ∙ literal) (h.0 []).good h.1,
   )
   run_gives (turned.Ends fault) h = (
+    1,
+    inr (refl, h.2),
     λ k.
-        subst (λ end. EndsSo end (doing_left w u p (reading_of p.names files file) k (doing.Expands e next))) (sym h.2)
-        (run_full law w u files p q file used.1 e f next good o x used.8 used.3 used.10 n (token_of q.names used.0 t) used.2 before_is k h.0),
+        subst (λ y. Leads {A = Nothing} 1 p y (doing_left w u p (reading_of p.names files file) k (doing.Expands e next)) (Ends (end_by fault) [])) (sym h.1)
+        (subst (λ end. Leads {A = Nothing} 1 p (with_used q n) (doing_left w u p (reading_of p.names files file) k (doing.Expands e next)) (Ends end [])) (sym h.2)
+        (run_full law w u files p q file used.1 e f next good o x used.8 used.3 used.10 n (token_of q.names used.0 t) used.2 before_is k h.0)),
     subst IsProgress (sym h.1) used_good_after,
   )
   run_gives turned.Goes h = absurd h
   run_gives turned.Closes h = absurd h
-  run_gives turned.Fails h = absurd h
   run_gives (turned.Opens g) h = absurd h
   run_gives (turned.Needs paths) h = absurd h
 

@@ -1,5 +1,5 @@
 -- Turns one after another, up to a step or the unit's end.
-use Rattle.std.proofs.Common.{◌≡◌, ℕ, ◌+◌, List, [], ◌∷◌, refl, sym, ap, ◌∙◌, subst, Option, Some, None, ◌⊎◌, inl, inr}
+use Rattle.std.proofs.Common.{◌≡◌, ℕ, ◌+◌, List, [], ◌∷◌, refl, sym, ap, ◌∙◌, subst, arith, Option, Some, None, inl}
 use Rattle.std.specs.Prelude.{Vec, Result, Ok, Err, IfOk}
 use Rattle.cr_base.specs.declared.memory.OutOfMemory.{OutOfMemory}
 use Rattle.std.specs.declared.alloc.Global.{Global}
@@ -24,10 +24,9 @@ use Rattle.cr_preproc.specs.Tasks.{Needs, Reply, Goes, Ends, Task, Nothing, Done
 use Rattle.cr_preproc.specs.Search.{World, world_of}
 use Rattle.cr_preproc.specs.Progressing.{state_of, IsProgress}
 use Rattle.cr_preproc.specs.Leading.{Leads}
-use Rattle.cr_preproc.specs.Turning.{EndsAlike, IsOpened, IsWorking}
-use Rattle.cr_preproc.specs.Preprocs.{firsts_left, going_left, left_by, left_of, IsOuter, AreOpen, IsGoing, IsPreproc, IsSameUnit, IsOfSearch, Follows, TurnLeads, IsTurn, IsPreStep, IsSilent, answer_of, path_of}
-use Rattle.cr_preproc.proofs.Leadings.{leads_same, leads_from}
-use Rattle.cr_preproc.proofs.UnitRuns.{follows_then}
+use Rattle.cr_preproc.specs.Turning.{IsOpened, IsWorking}
+use Rattle.cr_preproc.specs.Preprocs.{firsts_left, going_left, left_by, left_of, IsOuter, AreOpen, IsGoing, IsPreproc, IsSameUnit, IsOfSearch, IsUncounted, TurnLeads, IsTurn, IsPreStep, IsSilent, answer_of, path_of}
+use Rattle.cr_preproc.proofs.Leadings.{leads_same, leads_then, leads_from}
 
 pub going_is : (files : List KnownFile) (p : Preproc) → p.ending ≡ None → IsPreproc files p → IsProgress p.progress × AreOpen files p p.file
 going_is files p e good = subst (IsGoing files p) e good
@@ -39,7 +38,9 @@ working_is files p f e h good = subst (AreOpen files p) h (going_is files p e go
 -- all is opened and read
 pub done_turn : (files : List KnownFile) (p : Preproc) → p.ending ≡ None → p.file ≡ None → path_of p.unit p.firsts ≡ None → IsPreproc files p → TurnLeads files p (record p { ending = Some ending.Done }) None
 done_turn files p e h f good = (
-  inl (leads_from 0 p.progress p.progress _ _ _ (ap (left_by (world_of files) files p) e ∙ ap (going_left (world_of files) files p) h ∙ nothing p.firsts f) (leads_same p.progress (Goes Done (state_of p.progress) []))),
+  0,
+  refl,
+  leads_from 0 p.progress p.progress _ _ _ (ap (left_by (world_of files) files p) e ∙ ap (going_left (world_of files) files p) h ∙ nothing p.firsts f) (leads_same p.progress (Goes Done (state_of p.progress) [])),
   (going_is files p e good).0,
 ) where
   nothing : (first : Firsts) → path_of p.unit first ≡ None → firsts_left (world_of files) p.unit first (state_of p.progress) ≡ Goes Done (state_of p.progress) []
@@ -50,7 +51,6 @@ done_turn files p e h f good = (
 pub of_search : (w : World) (u : Unit) (files : List KnownFile) (p q : Progress) (m : Task Nothing) (t : Turned) → IsOpened w u files p q m t → IsOfSearch t
 of_search w u files p q m turned.Steps h = h
 of_search w u files p q m turned.Closes h = h
-of_search w u files p q m turned.Fails h = h
 of_search w u files p q m turned.Goes h = tt
 of_search w u files p q m (turned.Opens f) h = tt
 of_search w u files p q m (turned.Needs paths) h = tt
@@ -67,25 +67,35 @@ same_but_progress p q e h = record {
 }
 
 pub silent_begins : (files : List KnownFile) (p : Preproc) → IsPreproc files p → p.ending ≡ None → IsSilent files p p
-silent_begins files p good e = record { leads = inl (leads_same p.progress (left_of files p)); good = good; going = e }
+silent_begins files p good e = record { leads = leads_same p.progress (left_of files p); good = good; going = e }
+
+-- so many steps more, where there were none before
+leads_behind : (n : ℕ) (p q u : Progress) (r s t : Reply Nothing) → IsProgress p → Leads 0 p q r s → Leads n q u s t → Leads n p u r t
+leads_behind n p q u r s t good h l = let same : 0 + n ≡ n = omega arith in subst (λ k. Leads k p u r t) same (leads_then 0 n p q u r s t good h l)
+
+-- a turn that ends a unit in no fault, or doesn't end it, makes no step
+leads_none : (files : List KnownFile) (q r : Preproc) (end : Option Ending) (t : IsTurn files q r None) → r.ending ≡ end → ((n : ℕ) → IsUncounted n end → n ≡ 0) → Leads 0 q.progress r.progress (left_of files q) (left_of files r)
+leads_none files q r end t e none = subst (λ n. Leads n q.progress r.progress (left_of files q) (left_of files r)) (none t.leads.0 (subst (IsUncounted t.leads.0) e t.leads.1)) t.leads.2
 
 module _ (files : List KnownFile) (p q r : Preproc) (start : IsProgress p.progress) (s : IsSilent files p q) where
   pub silent_turn : IsTurn files q r None → r.ending ≡ None → IsSilent files p r
-  silent_turn t e = record { leads = follows_then 0 0 p.progress q.progress r.progress _ _ _ start s.leads t.leads.0; good = t.leads.1; going = e }
+  silent_turn t e = record { leads = leads_then 0 0 p.progress q.progress r.progress _ _ _ start s.leads (leads_none files q r None t e (λ n h. h)); good = t.leads.3; going = e }
 
   pub silent_more : p.ending ≡ None → IsTurn files q r (Some pre.More) → IsPreStep files p r pre.More
-  silent_more e t = record { leads = (e, follows_then 0 1 p.progress q.progress r.progress _ _ _ start s.leads t.leads.0) }
+  silent_more e t = record { leads = (e, leads_then 0 1 p.progress q.progress r.progress _ _ _ start s.leads t.leads.0) }
 
   pub silent_needs : (paths : Vec Text Global) → IsTurn files q r (Some (pre.Needs paths)) → IsPreStep files p r (pre.Needs paths)
   silent_needs paths t =
       let same : left_of files q ≡ left_of files r = ap (left_of files) (sym t.leads.1) in
-      record { leads = (subst (λ x. Follows 0 p.progress x.progress (left_of files p) (Ends (Needs paths.items) [])) (sym t.leads.1) (subst (Follows 0 p.progress q.progress (left_of files p)) t.leads.0 s.leads), sym same ∙ t.leads.0) }
+      record { leads = (subst (λ x. Leads {A = Nothing} 0 p.progress x.progress (left_of files p) (Ends (Needs paths.items) [])) (sym t.leads.1) (subst (Leads 0 p.progress q.progress (left_of files p)) t.leads.0 s.leads), sym same ∙ t.leads.0) }
 
   pub silent_ends : (end : Ending) (answer : PreTurn) → IsTurn files q r None → r.ending ≡ Some end → answer_of end ≡ Ok answer → IsPreStep files p r answer
-  silent_ends ending.Done answer t e a = let same : pre.Done ≡ answer = cc in subst (IsPreStep files p r) same (record { leads = (e, follows_then 0 0 p.progress q.progress r.progress _ _ _ start s.leads t.leads.0) })
+  silent_ends ending.Done answer t e a =
+      let same : pre.Done ≡ answer = cc in
+      subst (IsPreStep files p r) same (record { leads = (e, leads_then 0 0 p.progress q.progress r.progress _ _ _ start s.leads (leads_none files q r (Some ending.Done) t e (λ n h. h))) })
   silent_ends (ending.Ill fault) answer t e a =
       let same : pre.Ill fault.cause fault.place ≡ answer = cc in
-      subst (IsPreStep files p r) same (record { leads = (e, follows_then 0 0 p.progress q.progress r.progress _ _ _ start s.leads t.leads.0) })
+      subst (IsPreStep files p r) same (record { leads = (e, t.leads.0, subst (IsUncounted t.leads.0) e t.leads.1, leads_behind t.leads.0 p.progress q.progress r.progress _ _ _ start s.leads t.leads.2) })
   silent_ends ending.OutOfMemory answer t e a = absurd (let no : ⊥ = cc in no)
 
   -- the answer where a turn has ended the unit
@@ -103,8 +113,8 @@ module _ (files : List KnownFile) (p q r : Preproc) (start : IsProgress p.progre
 
 -- where a unit has ended it answers so
 pub ended_step : (files : List KnownFile) (p : Preproc) (end : Ending) (answer : PreTurn) → p.ending ≡ Some end → answer_of end ≡ Ok answer → IsPreStep files p p answer
-ended_step files p ending.Done answer e a = let same : pre.Done ≡ answer = cc in subst (IsPreStep files p p) same (record { leads = (e, inl (leads_same p.progress (left_of files p))) })
-ended_step files p (ending.Ill fault) answer e a = let same : pre.Ill fault.cause fault.place ≡ answer = cc in subst (IsPreStep files p p) same (record { leads = (e, inl (leads_same p.progress (left_of files p))) })
+ended_step files p ending.Done answer e a = let same : pre.Done ≡ answer = cc in subst (IsPreStep files p p) same (record { leads = (e, leads_same p.progress (left_of files p)) })
+ended_step files p (ending.Ill fault) answer e a = let same : pre.Ill fault.cause fault.place ≡ answer = cc in subst (IsPreStep files p p) same (record { leads = (e, 0, inl refl, leads_same p.progress (left_of files p)) })
 ended_step files p ending.OutOfMemory answer e a = absurd (let no : ⊥ = cc in no)
 
 -- the units after such turns are good

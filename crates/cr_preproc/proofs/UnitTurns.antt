@@ -1,5 +1,5 @@
 -- What a turn in the innermost file is for the whole unit.
-use Rattle.std.proofs.Common.{◌≡◌, ℕ, ◌+◌, ◌≤◌, List, [], ◌∷◌, ◌++◌, length, reverse, refl, sym, ap, ◌∙◌, subst, arith, append-nil, Option, Some, None, inl, inr}
+use Rattle.std.proofs.Common.{◌≡◌, ℕ, ◌+◌, ◌≤◌, List, [], ◌∷◌, ◌++◌, length, reverse, refl, sym, ap, ◌∙◌, subst, arith, append-nil, Option, Some, None}
 use Rattle.std.proofs.lemmas.List.{reverse-append}
 use Rattle.std.specs.Prelude.{Vec, option_to_list}
 use Rattle.std.specs.List.{AllByRecursion}
@@ -27,7 +27,7 @@ use Rattle.cr_preproc.specs.Progressing.{state_of, IsProgress}
 use Rattle.cr_preproc.specs.Expanding.{end_by}
 use Rattle.cr_preproc.specs.Leading.{Leads}
 use Rattle.cr_preproc.specs.Turning.{doing_left, IsWorking, IsDoing, IsTurned}
-use Rattle.cr_preproc.specs.Preprocs.{files_left, going_left, left_by, left_of, IsOuter, AreOpen, IsGoing, IsPreproc, IsSameUnit, TurnLeads}
+use Rattle.cr_preproc.specs.Preprocs.{files_left, going_left, left_by, left_of, IsOuter, AreOpen, IsGoing, IsPreproc, IsSameUnit, IsUncounted, TurnLeads}
 use Rattle.cr_preproc.proofs.OpenLater.{reading_later, open_later}
 use Rattle.cr_preproc.proofs.Leadings.{leads_from, leads_to}
 
@@ -68,6 +68,10 @@ good_going files p f e h w o = subst (IsGoing files p) (sym e) (w.progress, subs
 pub good_none : (files : List KnownFile) (p : Preproc) → p.ending ≡ None → p.file ≡ None → IsProgress p.progress → p.doing ≡ doing.Reads → p.outer.items ≡ [] → IsPreproc files p
 good_none files p e h g d o = subst (IsGoing files p) (sym e) (g, subst (AreOpen files p) (sym h) (d, o))
 
+-- a turn that doesn't end the unit, and isn't answered as a step, makes none
+pub uncounted : (q : Preproc) → q.ending ≡ None → IsUncounted 0 q.ending
+uncounted q e = subst (IsUncounted 0) (sym e) refl
+
 -- the unit as a turn in its innermost file left it
 module _ (files : List KnownFile) (p q : Preproc) (f g : OpenFile) (same : IsSameUnit p q) (pf : p.file ≡ Some f) (qf : q.file ≡ Some g) (outer : IsOuter files p.progress.names p.outer.items) where
   abbrev W : World
@@ -100,10 +104,10 @@ module _ (files : List KnownFile) (p q : Preproc) (f g : OpenFile) (same : IsSam
       )
 
   pub steps_turn : IsTurned W p.unit files p.progress q.progress f g p.doing q.doing turned.Steps → TurnLeads files p q (Some pre.More)
-  steps_turn h = let r = goes_on 1 h in (inl r.0, r.1)
+  steps_turn h = goes_on 1 h
 
   pub goes_turn : IsTurned W p.unit files p.progress q.progress f g p.doing q.doing turned.Goes → TurnLeads files p q None
-  goes_turn h = let r = goes_on 0 h in (inl r.0, r.1)
+  goes_turn h = let r = goes_on 0 h in (0, uncounted q same.ending, r.0, r.1)
 
   pub needs_turn : (paths : Vec Text Global) → IsTurned W p.unit files p.progress q.progress f g p.doing q.doing (turned.Needs paths) → TurnLeads files p q (Some (pre.Needs paths))
   needs_turn paths h = (
@@ -116,22 +120,7 @@ module _ (files : List KnownFile) (p q : Preproc) (f g : OpenFile) (same : IsSam
     equal a b c d e f g h = cc
 
   pub ends_turn : (fault : Fault) → IsTurned W p.unit files p.progress q.progress f g p.doing q.doing (turned.Ends fault) → TurnLeads files p (record q { ending = Some (ending.Ill fault) }) None
-  ends_turn fault h = let e = h.0 (behind_file files p) in (inr (end_by fault, e.0, [], left_p ∙ e.1, refl), h.1)
-
-  pub fails_turn : IsTurned W p.unit files p.progress q.progress f g p.doing q.doing turned.Fails → TurnLeads files p q None
-  fails_turn h =
-      let e = h.0 (behind_file files p) in (
-        inr (
-          e.0,
-          e.1,
-          e.2,
-          left_p ∙ e.3,
-          left_going files q g same.ending qf
-              ∙ ap (λ u. doing_left W u q.progress (reading_of q.progress.names files g) (behind_file files q) q.doing) same.unit
-              ∙ ap (λ k. doing_left W p.unit q.progress (reading_of q.progress.names files g) k q.doing) (behind_same h.2) ∙ e.4,
-        ),
-        good_going files q g same.ending qf h.1 (outer_now h.2),
-      )
+  ends_turn fault h = (h.0, h.1, leads_from h.0 p.progress q.progress _ _ _ left_p (h.2 (behind_file files p)), h.3)
 
   opens_now : (h : OpenFile) (outer1 : Vec OpenFile Global) → outer1.items ≡ q.outer.items ++ g ∷ [] → IsTurned W p.unit files p.progress q.progress f g p.doing q.doing (turned.Opens h)
       → TurnLeads files p (record q { file = Some h; outer = outer1 }) None
@@ -145,7 +134,9 @@ module _ (files : List KnownFile) (p q : Preproc) (f g : OpenFile) (same : IsSam
       ∙ ap (λ l. (reads_file W q.unit (reading_of q.progress.names files h) >>> λ n. files_left W q.unit q.progress.names files q.firsts l) (state_of q.progress)) back
       ∙ ap (λ u. (reads_file W u (reading_of q.progress.names files h) >>> λ n. reads_file W u (reading_of q.progress.names files g) >>> λ n. behind_file files q) (state_of q.progress)) same.unit
       ∙ ap (λ k. (reads_file W p.unit (reading_of q.progress.names files h) >>> λ n. reads_file W p.unit (reading_of q.progress.names files g) >>> λ n. k) (state_of q.progress)) (behind_same l.told.names) in (
-        inl (leads_from 0 p.progress q.progress _ _ _ left_p (leads_to 0 p.progress q.progress _ _ _ (sym left) l)),
+        0,
+        uncounted now same.ending,
+        leads_from 0 p.progress q.progress _ _ _ left_p (leads_to 0 p.progress q.progress _ _ _ (sym left) l),
         good_going files now h same.ending refl
             (record { progress = t.1; file = t.3; line = fits h t.6 t.1.reading; does = subst (IsDoing q.progress h) (sym t.4) tt })
             (subst (IsOuter files q.progress.names) (sym e) (outer_join files q.progress.names q.outer.items (g ∷ []) (outer_now l.told.names) ((t.2, t.5), tt))),
@@ -168,7 +159,7 @@ module _ (files : List KnownFile) (p q : Preproc) (f g : OpenFile) (same : IsSam
       ap (left_by W files now) same.ending
       ∙ ap (λ o. files_left W q.unit q.progress.names files q.firsts o (state_of q.progress)) (sym (ap reverse none))
       ∙ ap (λ k. k (state_of q.progress)) (behind_same l.told.names) in
-      (inl (leads_from 0 p.progress q.progress _ _ _ left_p (leads_to 0 p.progress q.progress _ _ _ (sym left) l)), good_none files now same.ending refl t.1 refl (n refl))
+      (0, uncounted now same.ending, leads_from 0 p.progress q.progress _ _ _ left_p (leads_to 0 p.progress q.progress _ _ _ (sym left) l), good_none files now same.ending refl t.1 refl (n refl))
   closes_turn (Some x) outer1 e n t =
       let l = t.0 (behind_file files p) in
       let now : Preproc = record q { file = Some x; outer = outer1; doing = doing.Reads } in
@@ -178,7 +169,9 @@ module _ (files : List KnownFile) (p q : Preproc) (f g : OpenFile) (same : IsSam
       ∙ ap (λ o. files_left W q.unit q.progress.names files q.firsts o (state_of q.progress)) (sym back)
       ∙ ap (λ k. k (state_of q.progress)) (behind_same l.told.names) in
       let both = outer_split files q.progress.names outer1.items (x ∷ []) (subst (IsOuter files q.progress.names) e (outer_now l.told.names)) in (
-        inl (leads_from 0 p.progress q.progress _ _ _ left_p (leads_to 0 p.progress q.progress _ _ _ (sym left) l)),
+        0,
+        uncounted now same.ending,
+        leads_from 0 p.progress q.progress _ _ _ left_p (leads_to 0 p.progress q.progress _ _ _ (sym left) l),
         good_going files now x same.ending refl (record { progress = t.1; file = both.1.0.0; line = fits both.1.0.1 t.1.reading; does = tt }) both.0,
       ) where
         fits : x.line.items ≡ [] → q.progress.reading ≤ 33554432 → length x.line.items + q.progress.reading ≤ 33554432

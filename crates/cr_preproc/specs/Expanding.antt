@@ -14,7 +14,7 @@ use Rattle.cr_expand.specs.Ahead.{Next, next_token}
 use Rattle.cr_expand.specs.Expanders.{IsRunning}
 use Rattle.cr_expand.specs.Held.{IsNamed as IsNameKnown}
 use Rattle.cr_expand.specs.HideSets.{Grows}
-use Rattle.cr_expand.specs.Machines.{still, ahead, uses}
+use Rattle.cr_expand.specs.Machines.{still, ahead, uses, EndsWithRule}
 use Rattle.cr_expand.specs.Running.{leads}
 use Rattle.cr_expand.specs.declared.machine.TheConstants.{LIMIT}
 use Rattle.cr_preproc.specs.declared.expansion.Expansion.{Expansion}
@@ -25,7 +25,7 @@ use Rattle.cr_preproc.specs.declared.progress.Progress.{Progress}
 use Rattle.cr_preproc.specs.declared.trace.Trace.{Trace}
 use Rattle.cr_macros.specs.declared.macros.Seen.{Seen}
 use Rattle.cr_preproc.specs.Traces.{opaque_place}
-use Rattle.cr_preproc.specs.Tasks.{End, Ill, Over, Tokens, Macros, Reading, Includes, Told, end_of}
+use Rattle.cr_preproc.specs.Tasks.{End, Ill, Over, Tokens, Macros, Reading, Includes, Told, end_of, told_by_uses}
 use Rattle.cr_preproc.specs.Progressing.{IsTold}
 
 -- what the expansion gives, and what it gives next
@@ -77,16 +77,20 @@ pub record IsNoted (old now : Progress) (noted : List Telling) : Type 0 where
   pub reading : now.reading ≡ old.reading
   pub tokens : now.tokens ≡ old.tokens
 
--- the work stops by a cause that ends a unit so
+-- the work stops by a cause that ends a unit so, and nothing is told before it
 abbrev pub StopsAt : {A : Type 0} → Answer A → End → Type 0
 StopsAt (Gave a left events) end = ⊥
-StopsAt (Stopped why events) end = end_of why ≡ end
+StopsAt (Stopped why events) end = (end_of why ≡ end) × (told_by_uses events ≡ [])
+
+-- What one use of a rule tells: its roles, and then that it was used.
+abbrev pub IsOneUse : List Telling → Type 0
+IsOneUse told = (uses told ≡ 1) × EndsWithRule told
 
 -- One more use of a rule.
 abbrev pub IsUsed : Progress → Progress → Expansion → Expansion → Use → Type 0
 IsUsed old now e f (use1.Gives t) =
     (hide : List Text) × (told : List Telling) × (rest : List Token)
-    × (uses told ≡ 1)
+    × IsOneUse told
     × (ahead_in old e ≡ Gave (Some (record { tokens = token_of now.names hide t ∷ []; rest = rest })) (LIMIT - f.expander.machine.used) told)
     × (ahead_in now f ≡ next_token (table_for now f) rest (LIMIT - f.expander.machine.used))
     × (still_in old e ≡ leads (token_of now.names hide t ∷ []) told (still_in now f))
@@ -96,7 +100,7 @@ IsUsed old now e f (use1.Gives t) =
     × (f.expander.machine.file ≡ e.expander.machine.file)
 IsUsed old now e f use1.Goes =
     (told : List Telling)
-    × (uses told ≡ 1)
+    × IsOneUse told
     × (ahead_in old e ≡ after told (ahead_in now f))
     × (still_in old e ≡ leads [] told (still_in now f))
     × IsNoted old now told

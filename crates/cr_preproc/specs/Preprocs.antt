@@ -1,5 +1,5 @@
 -- A unit that is preprocessed step by step: what is left of it, and what a run of steps gives.
-use Rattle.std.specs.Prelude.{◌≡◌, ◌⊎◌, ℕ, zero, suc, ◌+◌, List, [], ◌∷◌, ◌++◌, map, reverse, Option, Some, None, Result, Ok, Err}
+use Rattle.std.specs.Prelude.{◌≡◌, ℕ, zero, suc, ◌+◌, List, [], ◌∷◌, ◌++◌, map, reverse, Option, Some, None, Result, Ok, Err}
 use Rattle.std.specs.List.{AllByRecursion}
 use Rattle.std.specs.Prelude.{Vec}
 use Rattle.std.specs.declared.alloc.Global.{Global}
@@ -32,9 +32,9 @@ use Rattle.cr_preproc.specs.Preprocessing.{does_first_file, preprocessed}
 use Rattle.cr_preproc.specs.Traces.{Trace, trace_of}
 use Rattle.cr_preproc.specs.OpenFiles.{Reading, reads_file, reading_of, IsOpen}
 use Rattle.cr_preproc.specs.Progressing.{state_of, kept, IsProgress}
-use Rattle.cr_preproc.specs.Expanding.{end_by}
+use Rattle.cr_preproc.specs.Expanding.{ended_by, end_by}
 use Rattle.cr_preproc.specs.Leading.{Leads}
-use Rattle.cr_preproc.specs.Turning.{doing_left, EndsAlike, IsWorking}
+use Rattle.cr_preproc.specs.Turning.{doing_left, IsLastTurn, IsWorking}
 
 -- the files that no include names and that are still to be opened
 abbrev pub firsts_left : World → Unit → Firsts → Task Nothing
@@ -127,21 +127,22 @@ pub record IsSameUnit (p q : Preproc) : Type 0 where
 abbrev pub IsOfSearch : Turned → Type 0
 IsOfSearch turned.Steps = ⊥
 IsOfSearch turned.Closes = ⊥
-IsOfSearch turned.Fails = ⊥
 IsOfSearch turned.Goes = Prim.Unit {0}
 IsOfSearch (turned.Opens f) = Prim.Unit {0}
 IsOfSearch (turned.Needs paths) = Prim.Unit {0}
 IsOfSearch (turned.Ends fault) = Prim.Unit {0}
 
--- What was left before is so many steps' events, and then what is left now; or both end, and in the same way: where the list of
--- a conditional fails, what it told before that isn't kept.
-abbrev pub Follows : ℕ → Progress → Progress → Reply Nothing → Reply Nothing → Type 0
-Follows n p q before after = Leads n p q before after ⊎ EndsAlike before after
+-- How many steps a turn makes that isn't answered as a step: none, but that its last turn may be one.
+abbrev pub IsUncounted : ℕ → Option Ending → Type 0
+IsUncounted n None = n ≡ 0
+IsUncounted n (Some ending.Done) = n ≡ 0
+IsUncounted n (Some (ending.Ill fault)) = IsLastTurn n (end_by fault)
+IsUncounted n (Some ending.OutOfMemory) = n ≡ 0
 
 -- What a turn leads to: nothing but what is left, a step, or files that are wanted.
 abbrev pub TurnLeads : List KnownFile → Preproc → Preproc → Option PreTurn → Type 0
-TurnLeads files p q None = Follows 0 p.progress q.progress (left_of files p) (left_of files q) × IsPreproc files q
-TurnLeads files p q (Some pre.More) = Follows 1 p.progress q.progress (left_of files p) (left_of files q) × IsPreproc files q
+TurnLeads files p q None = (n : ℕ) × IsUncounted n q.ending × Leads n p.progress q.progress (left_of files p) (left_of files q) × IsPreproc files q
+TurnLeads files p q (Some pre.More) = Leads 1 p.progress q.progress (left_of files p) (left_of files q) × IsPreproc files q
 TurnLeads files p q (Some (pre.Needs paths)) = (left_of files p ≡ Ends (Needs paths.items) []) × (q ≡ p)
 TurnLeads files p q (Some pre.Done) = ⊥
 TurnLeads files p q (Some (pre.Ill why place)) = ⊥
@@ -151,18 +152,19 @@ pub record IsTurn (files : List KnownFile) (p q : Preproc) (turn : Option PreTur
 
 -- What a step leads to, where these files are known.
 abbrev pub StepLeads : List KnownFile → Preproc → Preproc → PreTurn → Type 0
-StepLeads files p q pre.More = (p.ending ≡ None) × Follows 1 p.progress q.progress (left_of files p) (left_of files q)
-StepLeads files p q (pre.Needs paths) = Follows 0 p.progress q.progress (left_of files p) (Ends (Needs paths.items) []) × (left_of files q ≡ Ends (Needs paths.items) [])
-StepLeads files p q pre.Done = (q.ending ≡ Some ending.Done) × Follows 0 p.progress q.progress (left_of files p) (left_of files q)
+StepLeads files p q pre.More = (p.ending ≡ None) × Leads 1 p.progress q.progress (left_of files p) (left_of files q)
+StepLeads files p q (pre.Needs paths) = Leads {A = Nothing} 0 p.progress q.progress (left_of files p) (Ends (Needs paths.items) []) × (left_of files q ≡ Ends (Needs paths.items) [])
+StepLeads files p q pre.Done = (q.ending ≡ Some ending.Done) × Leads 0 p.progress q.progress (left_of files p) (left_of files q)
 StepLeads files p q (pre.Ill why place) =
-    (q.ending ≡ Some (ending.Ill (record { cause = why; place = place }))) × Follows 0 p.progress q.progress (left_of files p) (left_of files q)
+    (q.ending ≡ Some (ending.Ill (record { cause = why; place = place })))
+    × (n : ℕ) × IsLastTurn n (ended_by place why) × Leads n p.progress q.progress (left_of files p) (left_of files q)
 
 pub record IsPreStep (files : List KnownFile) (p q : Preproc) (turn : PreTurn) : Type 0 where
   pub leads : StepLeads files p q turn
 
 -- What happened from one state of a unit to another without a step, before it ended.
 pub record IsSilent (files : List KnownFile) (p q : Preproc) : Type 0 where
-  pub leads : Follows 0 p.progress q.progress (left_of files p) (left_of files q)
+  pub leads : Leads 0 p.progress q.progress (left_of files p) (left_of files q)
   pub good : IsPreproc files q
   pub going : q.ending ≡ None
 
@@ -171,26 +173,29 @@ pub data Run (files : List KnownFile) (first : Preproc) : ℕ → Preproc → Ty
   Begins : Run files first 0 first
   Steps : {n : ℕ} {p : Preproc} → Run files first n p → (q : Preproc) → IsPreStep files p q pre.More → Run files first (suc n) q
 
--- What has happened is that part of the unit's preprocessing, and its tokens and its trace are those that are there.
-pub record Happened (unit : Unit) (old new : Text) (files : List KnownFile) (n : ℕ) (p : Preproc) : Type 0 where
-  pub events : List Event
+-- The events are so many steps, and the tokens and the trace that are there are those of the events.
+pub record AreMade (old new : Text) (n : ℕ) (p : Preproc) (events : List Event) : Type 0 where
   pub size : steps events ≡ n
-  pub so_far : preprocessed (world_of files) unit ≡ behind events (left_of files p)
   pub tokens : tokens_of p.progress.names p.progress.tokens.items ≡ map plain (final_tokens events)
   pub trace : kept p.progress.trace ≡ trace_of old new events
 
--- After n steps what has happened is the unit's preprocessing up to its nth step, unless the list of a conditional has failed: then
--- the unit ends as it does by what is left.
+-- What has happened is that part of the unit's preprocessing, and its tokens and its trace are those that are there.
+pub record Happened (unit : Unit) (old new : Text) (files : List KnownFile) (n : ℕ) (p : Preproc) : Type 0 where
+  pub events : List Event
+  pub so_far : preprocessed (world_of files) unit ≡ behind events (left_of files p)
+  pub made : AreMade old new n p events
+
+-- After n steps what has happened is the unit's preprocessing up to its nth step.
 abbrev pub GoesByTheDefinition : Type 0
 GoesByTheDefinition =
-    (unit : Unit) (old new : Text) (files : List KnownFile) (first p : Preproc) (n : ℕ) → IsFresh unit old new first → Run files first n p
-    → Happened unit old new files n p ⊎ EndsAlike (preprocessed (world_of files) unit) (left_of files p)
+    (unit : Unit) (old new : Text) (files : List KnownFile) (first p : Preproc) (n : ℕ) → IsFresh unit old new first → Run files first n p → Happened unit old new files n p
 
--- The whole of it is there at its end; and where it has a fault or wants files, so has the definition.
+-- The whole of it is there at its end; and where it has a fault or wants files, so has the definition, after as many steps, or one
+-- more where a rule gave a token for which there is no room.
 abbrev pub EndsByTheDefinition : Type 0
 EndsByTheDefinition =
     (unit : Unit) (old new : Text) (files : List KnownFile) (first p q : Preproc) (n : ℕ) → IsFresh unit old new first → Run files first n p
-    → (IsPreStep files p q pre.Done → (s : State) × (events : List Event) × (preprocessed (world_of files) unit ≡ Goes Done s events) × (steps events ≡ n)
-    × (tokens_of q.progress.names q.progress.tokens.items ≡ map plain (final_tokens events)) × (kept q.progress.trace ≡ trace_of old new events))
-    × ((fault : Fault) → IsPreStep files p q (pre.Ill fault.cause fault.place) → (events : List Event) × (preprocessed (world_of files) unit ≡ Ends (end_by fault) events))
-    × ((paths : Vec Text Global) → IsPreStep files p q (pre.Needs paths) → (events : List Event) × (preprocessed (world_of files) unit ≡ Ends (Needs paths.items) events))
+    → (IsPreStep files p q pre.Done → (s : State) × (events : List Event) × (preprocessed (world_of files) unit ≡ Goes Done s events) × AreMade old new n q events)
+    × ((fault : Fault) → IsPreStep files p q (pre.Ill fault.cause fault.place)
+    → (k : ℕ) × IsLastTurn k (end_by fault) × (events : List Event) × (preprocessed (world_of files) unit ≡ Ends (end_by fault) events) × AreMade old new (n + k) q events)
+    × ((paths : Vec Text Global) → IsPreStep files p q (pre.Needs paths) → (events : List Event) × (preprocessed (world_of files) unit ≡ Ends (Needs paths.items) events) × AreMade old new n q events)

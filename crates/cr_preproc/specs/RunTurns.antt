@@ -18,6 +18,5 @@ IsGiving p q t turned.Steps =
 IsGiving p q t (turned.Ends fault) = (length p.tokens.items ≡ MOST_TOKENS) × (q ≡ p) × (end_by fault ≡ Over Tokens)
 IsGiving p q t turned.Goes = ⊥
 IsGiving p q t turned.Closes = ⊥
-IsGiving p q t turned.Fails = ⊥
 IsGiving p q t (turned.Opens h) = ⊥
 IsGiving p q t (turned.Needs paths) = ⊥

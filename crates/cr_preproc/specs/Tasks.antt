@@ -1,11 +1,11 @@
 -- What preprocessing does, and how it ends: a part of it is a task, in which things happen until it is done or ends
 -- the unit.
-use Rattle.std.specs.Prelude.{ℕ, ◌-◌, nat_lt, if◌then◌else◌, List, [], ◌++◌, map, length, Option}
+use Rattle.std.specs.Prelude.{ℕ, ◌-◌, nat_lt, if◌then◌else◌, List, [], ◌∷◌, ◌++◌, map, length, Option}
 use Rattle.cr_base.specs.declared.token.Place.{Place}
 use Rattle.cr_base.specs.declared.cause.Role.{Role}
 use Rattle.cr_base.specs.declared.cause.IllCause.{IllCause}
 use Rattle.cr_base.specs.declared.cause.IllCause.TheVariants as cause
-use Rattle.cr_macros.specs.Tokens.{Text, Token, MacroText, Event as Telling, takes, Cause, ArgCount, OpenCall, BadPaste, Over as MacrosOver, Answer, Gave, Stopped, Work}
+use Rattle.cr_macros.specs.Tokens.{Text, Token, MacroText, Event as Telling, Rule, Taken, takes, Cause, ArgCount, OpenCall, BadPaste, Over as MacrosOver, Answer, Gave, Stopped, Work}
 
 -- what a unit can have too much of: final tokens, macro work, reading, include levels
 pub data Limit : Type 0 where
@@ -104,9 +104,21 @@ end_of (OpenCall site) = Ill cause.OpenCall site
 end_of (BadPaste site) = Ill cause.BadPaste site
 end_of MacrosOver = Over Macros
 
+-- a role is told only where something is told behind it
+abbrev pub role_before : Telling → List Telling → List Telling
+role_before role [] = []
+role_before role (e ∷ told) = role ∷ e ∷ told
+
+-- What is told of expansion that stops: what was noted up to its last use of a rule. A use tells its roles and then its rule, so
+-- of a use that fails nothing is told.
+abbrev pub told_by_uses : List Telling → List Telling
+told_by_uses [] = []
+told_by_uses (Rule ∷ events) = Rule ∷ told_by_uses events
+told_by_uses (Taken text place role ∷ events) = role_before (Taken text place role) (told_by_uses events)
+
 abbrev pub from_answer : {A : Type 0} → State → Answer A → Reply A
 from_answer s (Gave a left events) = Goes a (record s { work = left }) (map Told events)
-from_answer s (Stopped why events) = Ends (end_of why) (map Told events)
+from_answer s (Stopped why events) = Ends (end_of why) (map Told (told_by_uses events))
 
 -- work of macro expansion
 abbrev pub does : {A : Type 0} → Work A → Task A

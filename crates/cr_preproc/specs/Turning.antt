@@ -1,10 +1,9 @@
 -- What is left while an open file is worked on, and what a turn does.
-use Rattle.std.specs.Prelude.{◌≡◌, ◌≤◌, ◌+◌, ℕ, suc, if◌then◌else◌, List, [], ◌∷◌, length, Option, Some, None, Result, Ok, Err}
+use Rattle.std.specs.Prelude.{◌≡◌, ◌≤◌, ◌+◌, ◌⊎◌, ℕ, suc, if◌then◌else◌, List, [], ◌∷◌, length, Option, Some, None, Result, Ok, Err}
 use Rattle.cr_base.specs.declared.cause.IllCause.TheVariants as cause
 use Rattle.cr_base.specs.declared.cause.Role.TheVariants.{Directive as InDirective}
 use Rattle.cr_base.specs.declared.unit.Unit.{Unit}
 use Rattle.cr_macros.specs.Tokens.{Text, Token, tokens_of}
-use Rattle.cr_expand.specs.HideSets.{Grows}
 use Rattle.cr_snapshot.specs.declared.known.KnownFile.{KnownFile}
 use Rattle.cr_base.specs.declared.token.Place.{Place}
 use Rattle.cr_preproc.specs.declared.conditional.Led.{Led}
@@ -21,7 +20,7 @@ use Rattle.cr_preproc.specs.declared.turning.Doing.TheVariants as doing
 use Rattle.cr_preproc.specs.declared.turning.Turned.{Turned}
 use Rattle.cr_preproc.specs.declared.turning.Turned.TheVariants as turned
 use Rattle.cr_preproc.specs.declared.expansion.Fault.{Fault}
-use Rattle.cr_preproc.specs.Tasks.{State, End, Ill, Needs, Event, Reply, Goes, Ends, Task, Nothing, Done, go_on, ◌>>>◌, ends, tell, marks, in_directive, events_of}
+use Rattle.cr_preproc.specs.Tasks.{State, End, Ill, Over, Tokens, Needs, Event, Reply, Goes, Ends, Task, Nothing, Done, go_on, ◌>>>◌, ends, tell, marks, in_directive, events_of}
 use Rattle.cr_preproc.specs.Lines.{Line, Plain, Conditional, Directive, Empty, Wordless, line_of}
 use Rattle.cr_preproc.specs.Search.{World}
 use Rattle.cr_preproc.specs.Runs.{runs, expands, earlier, after_run, is_open_call}
@@ -90,13 +89,9 @@ pub record IsWorking (files : List KnownFile) (p : Progress) (f : OpenFile) (d :
   pub line : length f.line.items + p.reading ≤ 33554432
   pub does : IsDoing p f d
 
--- the unit ends so, whatever happens before
-abbrev pub EndsSo : End → Reply Nothing → Type 0
-EndsSo end reply = (events : List Event) × (reply ≡ Ends end events)
-
--- Both end, and in the same way.
-abbrev pub EndsAlike : Reply Nothing → Reply Nothing → Type 0
-EndsAlike r s = (end : End) × (es : List Event) × (fs : List Event) × (r ≡ Ends end es) × (s ≡ Ends end fs)
+-- How many steps a turn makes that ends a unit so: none; or one, where a rule was used that gave a token for which there is no room.
+abbrev pub IsLastTurn : ℕ → End → Type 0
+IsLastTurn n end = (n ≡ 0) ⊎ ((n ≡ 1) × (end ≡ Over Tokens))
 
 -- What a turn came to.
 abbrev pub IsTurned : World → Unit → List KnownFile → Progress → Progress → OpenFile → OpenFile → Doing → Doing → Turned → Type 0
@@ -110,12 +105,10 @@ IsTurned w u files p q f g d e (turned.Opens h) =
     ((k : Task Nothing) → Leads 0 p q (doing_left w u p (reading_of p.names files f) k d)
     ((reads_file w u (reading_of q.names files h) >>> λ n. reads_file w u (reading_of q.names files g) >>> λ n. k) (state_of q)))
     × IsProgress q × IsOpen q.names files g × IsOpen q.names files h × (e ≡ doing.Reads) × (g.line.items ≡ []) × (h.line.items ≡ [])
-IsTurned w u files p q f g d e turned.Fails =
-    ((k : Task Nothing) → EndsAlike (doing_left w u p (reading_of p.names files f) k d) (doing_left w u q (reading_of q.names files g) k e)) × IsWorking files q g e × Grows p.names q.names
 IsTurned w u files p q f g d e (turned.Needs paths) =
     ((k : Task Nothing) → doing_left w u p (reading_of p.names files f) k d ≡ Ends (Needs paths.items) []) × (q ≡ p) × (g ≡ f) × (e ≡ d)
 IsTurned w u files p q f g d e (turned.Ends fault) =
-    ((k : Task Nothing) → EndsSo (end_by fault) (doing_left w u p (reading_of p.names files f) k d)) × IsProgress q
+    (n : ℕ) × IsLastTurn n (end_by fault) × ((k : Task Nothing) → Leads {A = Nothing} n p q (doing_left w u p (reading_of p.names files f) k d) (Ends (end_by fault) [])) × IsProgress q
 
 -- how the unit ends where a run ends it so
 abbrev pub ended_behind : Then → End → End
@@ -146,14 +139,12 @@ IsOpened w u files p q m (turned.Ends fault) = Leads {A = Nothing} 0 p q (m (sta
 IsOpened w u files p q m (turned.Needs paths) = (m (state_of p) ≡ Ends (Needs paths.items) []) × (q ≡ p)
 IsOpened w u files p q m turned.Steps = ⊥
 IsOpened w u files p q m turned.Closes = ⊥
-IsOpened w u files p q m turned.Fails = ⊥
 
 -- no file is wanted of which nothing is known
 abbrev pub WantsNoFile : Turned → Type 0
 WantsNoFile turned.Steps = Prim.Unit {0}
 WantsNoFile turned.Goes = Prim.Unit {0}
 WantsNoFile turned.Closes = Prim.Unit {0}
-WantsNoFile turned.Fails = Prim.Unit {0}
 WantsNoFile (turned.Opens h) = Prim.Unit {0}
 WantsNoFile (turned.Needs paths) = ⊥
 WantsNoFile (turned.Ends fault) = Prim.Unit {0}

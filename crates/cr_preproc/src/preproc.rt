@@ -196,7 +196,6 @@ impl Preproc {
             Turned::Steps => Ok(Some(PreTurn::More)),
             Turned::Needs(paths) => Ok(Some(PreTurn::Needs(paths))),
             Turned::Goes => Ok(None),
-            Turned::Fails => Ok(None),
             Turned::Ends(fault) => {
                 self.ending = Some(Ending::Ill(fault));
                 Ok(None)
@@ -288,7 +287,7 @@ impl Preproc {
                 self.firsts = next_first(self.firsts);
                 None
             }
-            Turned::Steps | Turned::Closes | Turned::Fails => unreachable!(),
+            Turned::Steps | Turned::Closes => unreachable!(),
         }
     }
 

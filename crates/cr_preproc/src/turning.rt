@@ -83,8 +83,6 @@ pub enum Turned {
     Opens(OpenFile),
     // Nothing is known of these paths; nothing is changed.
     Needs(Vec<PathText>),
-    // No step was made, and the unit ends behind its run.
-    Fails,
     // The unit ends so.
     Ends(Fault),
 }
@@ -689,7 +687,7 @@ fn decide_turn(
         }
         Use::Fails(fault) => {
             *doing = expand_run(alloc, progress, file, Then::Fails(at(hash, fault)))?;
-            Ok(Turned::Fails)
+            Ok(Turned::Goes)
         }
     }
 }

@@ -1,4 +1,4 @@
-use Rattle.std.proofs.Common.{◌≡◌, ap, sym, ◌∙◌, subst, refl}
+use Rattle.std.proofs.Common.{◌≡◌, ap, sym, ◌∙◌, subst, refl, inl}
 use Rattle.std.specs.Prelude.{[]}
 use Rattle.cr_macros.specs.Tokens.{tokens_of}
 use Rattle.cr_preproc.specs.declared.turning.Then.{Then}
@@ -9,11 +9,9 @@ use Rattle.cr_preproc.specs.Lines.{line_of}
 use Rattle.cr_preproc.specs.Search.{world_of}
 use Rattle.cr_preproc.specs.OpenFiles.{reading_of, IsOpen}
 use Rattle.cr_preproc.specs.Progressing.{state_of}
-use Rattle.cr_preproc.specs.Expanding.{end_by}
 use Rattle.cr_preproc.specs.Leading.{Leads}
 use Rattle.cr_preproc.specs.Turning.{doing_left, then_left, carried}
 use Rattle.cr_preproc.proofs.Leadings.{behind_none, leads_to}
-use Rattle.cr_preproc.proofs.Turns.{leads_end}
 use Rattle.cr_preproc.proofs.DirectiveTurns.{behind_from}
 use Rattle.cr_preproc.proofs.turning.after_run.Goals as goal
 
@@ -25,9 +23,9 @@ returns-in-Fails c = record {
       let files = c.args.snapshot.now in
       let q = c.args.progress.now in
       let before = λ (k : Task Nothing). doing_left w u p (reading_of p.names files c.args.file.now) k d in (
-        λ k.
-            leads_end 0 p q (before k) (end_by c.in-Fails.fault)
-            (subst (λ next. Leads 0 p q (before k) (then_left w u (reading_of q.names files c.args.file.now) k next (Goes Done (state_of q) []))) c.in-Fails.is (h k)),
+        0,
+        inl refl,
+        λ k. (subst (λ next. Leads 0 p q (before k) (then_left w u (reading_of q.names files c.args.file.now) k next (Goes Done (state_of q) []))) c.in-Fails.is (h k)),
         c.requires.good,
       );
 }

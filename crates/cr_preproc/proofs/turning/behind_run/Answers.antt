@@ -1,9 +1,7 @@
 use Rattle.cr_preproc.specs.Tasks.{Task, Nothing}
 use Rattle.cr_preproc.specs.Turning.{doing_left, IsBehind, IsEnded}
 use Rattle.cr_preproc.specs.OpenFiles.{reading_of}
-use Rattle.std.proofs.Common.{subst}
-use Rattle.cr_preproc.specs.Expanding.{end_by}
-use Rattle.cr_preproc.proofs.Turns.{leads_end}
+use Rattle.std.proofs.Common.{subst, refl, inl}
 use Rattle.cr_preproc.proofs.DirectiveTurns.{behind_working}
 use Rattle.cr_preproc.proofs.turning.behind_run.Goals as goal
 
@@ -18,4 +16,4 @@ pub returns-in-Err : goal.returns-in-Err
 returns-in-Err c w u files p q d o behind =
     let before = λ (k : Task Nothing). doing_left w u p (reading_of p.names files c.args.file.now) k d in
     let h = subst (λ n. IsBehind w u files p q c.args.file.now before n) c.in-Err.is behind in
-    (λ k. leads_end 0 p q (before k) (end_by c.in-Err.fault) (h.0 k), h.1)
+    (0, inl refl, h.0, h.1)

@@ -7,7 +7,7 @@ use Rattle.cr_preproc.specs.declared.expansion.Use.TheVariants as use1
 use Rattle.cr_preproc.specs.OpenFiles.{reading_of, IsOpen}
 use Rattle.cr_preproc.specs.Runs.{runs}
 use Rattle.cr_preproc.specs.Turning.{IsFitting}
-use Rattle.cr_preproc.proofs.DecideTurns.{fails_alike, ends_next}
+use Rattle.cr_preproc.proofs.DecideTurns.{fails_next, ends_next}
 use Rattle.cr_preproc.specs.Progressing.{state_of}
 use Rattle.cr_preproc.specs.Seen.{AreNamed}
 use Rattle.cr_preproc.specs.Expanding.{IsUsed, still_in, end_by}
@@ -89,18 +89,17 @@ returns-in_ok-doing-in-Fails c = record {
       let noted = used.2 in
       let g = noted.told.names in
       let open2 : IsOpen q.names files f = open_later p.names q.names files f g open1 in (
-        (λ k. fails_alike w u (reading_of p.names files f) k c.args.decision c.args.hash (state_of p) (tokens_of p.names c.args.given.items) (still_in p e1) (end_by fault) c.at.result
+        (λ k. fails_next w u (reading_of p.names files f) k c.args.decision c.args.hash p q (state_of p) (tokens_of p.names c.args.given.items) (still_in p e1) (end_by fault) c.at.result
             (runs f.path (tokens_of q.names f.run.items) (state_of q)) _ used.1 c.at.ensures
             (ap (λ (ts : List Token). runs f.path ts (state_of q)) (tokens_later p.names q.names f.run.items g c.requires.run)
             ∙ ap (runs f.path (tokens_of p.names f.run.items)) (noted_state p q [] c.defined_macros_are_known.ensures c.requires.good noted))
-            (c.in_ok-doing-in-Fails.ensures.left w u files k open2)),
+            (c.in_ok-doing-in-Fails.ensures.left w u files k open2) noted.told),
         record {
           progress = c.in_ok-step.ensures.good;
           file = open2;
           line = (let e : q.reading ≡ p.reading = noted.reading in let h : length f.line.items + p.reading ≤ 33554432 = fits in omega (arith, e, h));
           does = c.in_ok-doing-in-Fails.ensures.does;
         },
-        g,
       );
 }
 

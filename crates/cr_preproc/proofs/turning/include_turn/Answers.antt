@@ -1,7 +1,7 @@
-use Rattle.std.proofs.Common.{◌≡◌, ◌∙◌, List, sym, subst}
+use Rattle.std.proofs.Common.{◌≡◌, ◌∙◌, List, [], sym, subst, refl, inl}
 use Rattle.cr_base.specs.declared.token.PpTok.{PpTok}
 use Rattle.cr_macros.specs.Tokens.{tokens_of}
-use Rattle.cr_preproc.specs.Tasks.{Task, Nothing}
+use Rattle.cr_preproc.specs.Tasks.{Task, Nothing, Ends}
 use Rattle.cr_preproc.specs.Search.{world_of}
 use Rattle.cr_preproc.specs.Preprocessing.{does_file}
 use Rattle.cr_preproc.specs.OpenFiles.{reading_of, IsOpen}
@@ -9,7 +9,7 @@ use Rattle.cr_preproc.specs.declared.expansion.Use.TheVariants as use1
 use Rattle.cr_preproc.specs.Expanding.{IsUsed, end_by}
 use Rattle.cr_preproc.specs.Leading.{Leads, includes_given}
 use Rattle.cr_preproc.specs.declared.turning.Doing.TheVariants as doing
-use Rattle.cr_preproc.specs.Turning.{directed_left, EndsSo, IsBehind}
+use Rattle.cr_preproc.specs.Turning.{directed_left, IsBehind}
 use Rattle.cr_preproc.proofs.NamesGrow.{all_named_later}
 use Rattle.cr_preproc.proofs.Turns.{with_used}
 use Rattle.cr_preproc.proofs.IncludeTurns.{include_left, include_goes, include_gives, include_ends, include_fails, noted_working, named_push}
@@ -50,10 +50,13 @@ returns-in-Fails c = record {
   turned =
       let i : IsUsed c.args.progress.now c.step.new.progress c.args.expansion c.step.new.self (use1.Fails c.in-Fails.fault) = subst (IsUsed c.args.progress.now c.step.new.progress c.args.expansion c.step.new.self) c.in-Fails.is c.in_ok-step.ensures.used in
       let w = world_of c.args.snapshot.now in
-      let p = c.args.progress.now in (
+      let p = c.args.progress.now in
+      let q = c.step.new.progress in (
+        0,
+        inl refl,
         λ k.
-            subst (λ end. EndsSo end (include_left w c.args.unit.now p (reading_of p.names c.args.snapshot.now c.args.file.now) k c.args.expansion c.args.given.items c.args.hash)) (sym c.at.ensures)
-            (include_fails w c.args.unit.now c.args.snapshot.now p c.args.file.now c.args.expansion c.args.hash c.args.given.items (end_by c.in-Fails.fault) i.1 k),
+            subst (λ end. Leads {A = Nothing} 0 p q (include_left w c.args.unit.now p (reading_of p.names c.args.snapshot.now c.args.file.now) k c.args.expansion c.args.given.items c.args.hash) (Ends end [])) (sym c.at.ensures)
+            (include_fails w c.args.unit.now c.args.snapshot.now p q c.args.file.now c.args.expansion c.args.hash c.args.given.items (end_by c.in-Fails.fault) i.1 i.2.told k),
         c.in_ok-step.ensures.good,
       );
 }

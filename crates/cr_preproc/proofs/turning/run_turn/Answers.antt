@@ -1,4 +1,4 @@
-use Rattle.std.proofs.Common.{◌≡◌, ◌≤◌, sym, ◌∙◌, subst, refl}
+use Rattle.std.proofs.Common.{◌≡◌, ◌≤◌, [], sym, ◌∙◌, subst, refl, inl}
 use Rattle.cr_expand.specs.declared.machine.TheConstants.{LIMIT}
 use Rattle.cr_preproc.specs.declared.expansion.Use.TheVariants as use1
 use Rattle.cr_preproc.specs.declared.turning.Doing.TheVariants as doing
@@ -6,7 +6,9 @@ use Rattle.cr_preproc.specs.OpenFiles.{reading_of}
 use Rattle.cr_preproc.specs.Progressing.{state_of}
 use Rattle.cr_preproc.specs.Search.{world_of}
 use Rattle.cr_preproc.specs.Expanding.{IsUsed, end_by, ahead_in, table_for}
-use Rattle.cr_preproc.specs.Turning.{EndsSo, doing_left}
+use Rattle.cr_preproc.specs.Tasks.{Nothing, Ends}
+use Rattle.cr_preproc.specs.Leading.{Leads}
+use Rattle.cr_preproc.specs.Turning.{doing_left}
 use Rattle.cr_preproc.proofs.Turns.{with_used, used_good, run_goes, run_gives, run_ends, run_fails, run_working}
 use Rattle.cr_preproc.proofs.turning.run_turn.Goals as goal
 
@@ -42,13 +44,16 @@ returns-in_ok-turned-in-Ends c = record {
 pub returns-in-Fails : goal.returns-in-Fails
 returns-in-Fails c = record {
   turned =
-      let i : IsUsed c.args.progress.now c.step.new.progress c.args.expansion c.step.new.self (use1.Fails c.in-Fails.fault) = subst (IsUsed c.args.progress.now c.step.new.progress c.args.expansion c.step.new.self) c.in-Fails.is c.in_ok-step.ensures.used in
-      let w = world_of c.args.snapshot.now in
       let p = c.args.progress.now in
+      let q = c.step.new.progress in
+      let i : IsUsed p q c.args.expansion c.step.new.self (use1.Fails c.in-Fails.fault) = subst (IsUsed p q c.args.expansion c.step.new.self) c.in-Fails.is c.in_ok-step.ensures.used in
+      let w = world_of c.args.snapshot.now in
       let r = reading_of p.names c.args.snapshot.now c.args.file.now in (
+        0,
+        inl refl,
         λ k.
-            subst (λ end. EndsSo end (doing_left w c.args.unit.now p r k (doing.Expands c.args.expansion c.args.then))) (sym c.earlier.ensures)
-            (run_fails w c.args.unit.now r k c.args.then (table_for p c.args.expansion) (state_of p) (ahead_in p c.args.expansion) (end_by c.in-Fails.fault) i.0),
+            subst (λ end. Leads {A = Nothing} 0 p q (doing_left w c.args.unit.now p r k (doing.Expands c.args.expansion c.args.then)) (Ends end [])) (sym c.earlier.ensures)
+            (run_fails w c.args.unit.now r k c.args.then p q (table_for p c.args.expansion) (state_of p) (ahead_in p c.args.expansion) (end_by c.in-Fails.fault) i.0 i.2.told),
         c.in_ok-step.ensures.good,
       );
 }

@@ -37,7 +37,7 @@ returns-in_ok-keep-in-Ok-Out-clause-used c =
       a.0,
       a.1.events,
       a.2,
-      a.1.one,
+      (a.1.one, a.1.last),
       a.3,
       a.4,
       a.1.goes,
@@ -61,7 +61,7 @@ returns-in_ok-keep-in-Ok-More-clause-used c =
     let n = noted (watch_of p.names c.args.self.now.expander.machine.notes) a.0.events in
     let e : c.seen-in-Ok-More.result.now ≡ c.seen-before.result.now ++ n = c.seen-in-Ok-More.ensures ∙ a.0.seen ∙ ap (λ l. l ++ n) (sym c.seen-before.ensures) in (
       a.0.events,
-      a.0.one,
+      (a.0.one, a.0.last),
       a.1,
       a.0.goes,
       noted_more p c.step.new.names c.keep-in-Ok-More.new.trace c.args.self.now.expander.machine.notes a.0.events (drop (length c.seen-before.result.now) c.seen-in-Ok-More.result.now) c.requires.good s.1 x.from x.to (seen_behind c.seen-before.result.now c.seen-in-Ok-More.result.now n e) c.in_ok-keep-in-Ok-More.ensures,

@@ -4,7 +4,7 @@ use Rattle.std.specs.Vec.{vec_len}
 use Rattle.std.specs.Option.{MatchOption}
 use Rattle.cr_preproc.specs.Search.{world_of}
 use Rattle.cr_preproc.specs.Turning.{IsTurned}
-use Rattle.cr_preproc.proofs.UnitTurns.{steps_turn, goes_turn, ends_turn, needs_turn, fails_turn, opens_turn, closes_turn}
+use Rattle.cr_preproc.proofs.UnitTurns.{steps_turn, goes_turn, ends_turn, needs_turn, opens_turn, closes_turn}
 use Rattle.cr_preproc.proofs.preproc.Preproc.follow.Goals as goal
 
 pub returns-in-Steps : goal.returns-in-Steps
@@ -23,12 +23,6 @@ pub returns-in-Ends : goal.returns-in-Ends
 returns-in-Ends c = λ files p f g same pf qf outer t. record {
   leads =
       ends_turn files p c.args.self.now f g same pf qf outer c.in-Ends.fault (subst (IsTurned (world_of files) p.unit files p.progress c.args.self.now.progress f g p.doing c.args.self.now.doing) c.in-Ends.is t);
-}
-
-pub returns-in-Fails : goal.returns-in-Fails
-returns-in-Fails c = λ files p f g same pf qf outer t. record {
-  leads =
-      fails_turn files p c.args.self.now f g same pf qf outer (subst (IsTurned (world_of files) p.unit files p.progress c.args.self.now.progress f g p.doing c.args.self.now.doing) c.in-Fails.is t);
 }
 
 pub returns-in_ok-open-in-Opens : goal.returns-in_ok-open-in-Opens
