@@ -44,3 +44,4 @@ pub mod IncludeTurns
 pub mod DirectiveTurns
 mod LineSplit
 mod UnitSteps
+pub mod Falls

@@ -23,3 +23,4 @@ pub mod OpenFileSteps
 pub mod Preprocs
 pub mod RunTurns
 pub mod LineParts
+pub mod Falling

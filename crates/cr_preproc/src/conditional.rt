@@ -295,6 +295,7 @@ pub fn decide(
     ensures decided { IfOk result (λ r. IsDecided hash progress.old progress.new (tokens_of progress.old.names given.now) r) }
     ensures good { OnOk result (IsProgress progress.new) }
     ensures names { progress.new.names ≡ progress.old.names }
+    ensures reading { OnOk result (progress.new.reading ≡ progress.old.reading) }
 {
     progress.note_all(Role::Controlling, given)?;
     match is_true(alloc, &progress.names, given) {

@@ -8,6 +8,7 @@ ghost use Rattle.cr_macros.specs.Tokens.{Text, Token, token_of, tokens_of};
 ghost use Rattle.cr_preproc.specs.Directives as spec;
 ghost use Rattle.cr_preproc.specs.Search.{World};
 ghost use Rattle.cr_preproc.specs.Leading.{IsDirected, includes_given};
+ghost use Rattle.cr_preproc.specs.Falling.{IsUnexpanded};
 ghost use Rattle.cr_preproc.specs.Progressing.{IsProgress};
 ghost use Rattle.cr_preproc.specs.Seen.{AreNamed, IsNamed};
 ghost use Rattle.cr_preproc.specs.Tasks.{◌>>>◌, tell, marks};
@@ -67,6 +68,7 @@ fn define(
     ensures directed { (w : World) (u : TheUnit) (enter : spec.Opening) (path : Text) → IfOk result (λ d. IsDirected w u enter path hash (tokens_of progress.old.names rest.now) progress.old progress.new (by_order w u enter path hash (tokens_of progress.old.names rest.now) order.Define) d) }
     ensures names { progress.new.names ≡ progress.old.names }
     ensures good { OnOk result (IsProgress progress.new) }
+    ensures reading { OnOk result (progress.new.reading ≡ progress.old.reading) }
 {
     if progress.define(line)? {
         Ok(Directed::Goes)
@@ -81,6 +83,7 @@ fn undefine(progress: &mut Progress, hash: Place, rest: &[PpTok]) -> Result<Dire
     ensures directed { (w : World) (u : TheUnit) (enter : spec.Opening) (path : Text) → IfOk result (λ d. IsDirected w u enter path hash (tokens_of progress.old.names rest.now) progress.old progress.new (by_order w u enter path hash (tokens_of progress.old.names rest.now) order.Undef) d) }
     ensures names { progress.new.names ≡ progress.old.names }
     ensures good { OnOk result (IsProgress progress.new) }
+    ensures reading { OnOk result (progress.new.reading ≡ progress.old.reading) }
 {
     if progress.undefine(rest)? {
         Ok(Directed::Goes)
@@ -99,6 +102,7 @@ fn include(
     ensures directed { (w : World) (u : TheUnit) (enter : spec.Opening) (path : Text) → IfOk result (λ d. IsDirected w u enter path hash (tokens_of progress.old.names rest.now) progress.old progress.new (by_order w u enter path hash (tokens_of progress.old.names rest.now) order.Include) d) }
     ensures names { progress.new.names ≡ progress.old.names }
     ensures good { OnOk result (IsProgress progress.new) }
+    ensures reading { OnOk result (progress.new.reading ≡ progress.old.reading) }
 {
     progress.note_all(Role::Directive, rest)?;
     match header_name(alloc, &progress.names, rest)? {
@@ -118,6 +122,8 @@ pub fn include_given(
     ensures directed { (w : World) (u : TheUnit) (enter : spec.Opening) (path : Text) (ts : ListOf Token) → IfOk result (λ d. IsDirected w u enter path hash ts progress.old progress.new (includes_given w u enter path hash (tokens_of progress.old.names given.now)) d) }
     ensures names { progress.new.names ≡ progress.old.names }
     ensures good { OnOk result (IsProgress progress.new) }
+    ensures reading { OnOk result (progress.new.reading ≡ progress.old.reading) }
+    ensures unexpanded { IfOk result (λ d. IsUnexpanded d) }
 {
     progress.note_all(Role::Directive, given)?;
     match header_name(alloc, &progress.names, given)? {
@@ -131,6 +137,7 @@ fn pragma(progress: &mut Progress, path: &PathText, rest: &[PpTok]) -> Result<Di
     ensures directed { (w : World) (u : TheUnit) (enter : spec.Opening) (hash : ThePlace) → IfOk result (λ d. IsDirected w u enter path.now hash (tokens_of progress.old.names rest.now) progress.old progress.new (by_order w u enter path.now hash (tokens_of progress.old.names rest.now) order.Pragma) d) }
     ensures names { progress.new.names ≡ progress.old.names }
     ensures good { OnOk result (IsProgress progress.new) }
+    ensures reading { OnOk result (progress.new.reading ≡ progress.old.reading) }
 {
     if is_once(&progress.names, rest) {
         progress.add_once(path.bytes())?;
@@ -147,6 +154,7 @@ fn named(progress: &mut Progress, rest: &[PpTok]) -> Result<Directed, OutOfMemor
     ensures directed { (w : World) (u : TheUnit) (enter : spec.Opening) (path : Text) (hash : ThePlace) → IfOk result (λ d. IsDirected w u enter path hash (tokens_of progress.old.names rest.now) progress.old progress.new (by_order w u enter path hash (tokens_of progress.old.names rest.now) order.Named) d) }
     ensures names { progress.new.names ≡ progress.old.names }
     ensures good { OnOk result (IsProgress progress.new) }
+    ensures reading { OnOk result (progress.new.reading ≡ progress.old.reading) }
 {
     progress.note_all(Role::Directive, rest)?;
     Ok(Directed::Goes)
@@ -157,6 +165,7 @@ fn error(progress: &mut Progress, hash: Place, rest: &[PpTok]) -> Result<Directe
     ensures directed { (w : World) (u : TheUnit) (enter : spec.Opening) (path : Text) → IfOk result (λ d. IsDirected w u enter path hash (tokens_of progress.old.names rest.now) progress.old progress.new (by_order w u enter path hash (tokens_of progress.old.names rest.now) order.Error) d) }
     ensures names { progress.new.names ≡ progress.old.names }
     ensures good { OnOk result (IsProgress progress.new) }
+    ensures reading { OnOk result (progress.new.reading ≡ progress.old.reading) }
 {
     progress.note_all(Role::Directive, rest)?;
     Ok(fails(IllCause::ErrorDirective, hash))
@@ -182,6 +191,7 @@ fn carry_out(
     ensures directed { (w : World) (u : TheUnit) (enter : spec.Opening) → IfOk result (λ d. IsDirected w u enter path.now hash (tokens_of progress.old.names rest.now) progress.old progress.new (by_order w u enter path.now hash (tokens_of progress.old.names rest.now) asked) d) }
     ensures names { progress.new.names ≡ progress.old.names }
     ensures good { OnOk result (IsProgress progress.new) }
+    ensures reading { OnOk result (progress.new.reading ≡ progress.old.reading) }
 {
     match asked {
         Order::Define => {
@@ -234,6 +244,7 @@ pub fn direct(
         (tell (marks role.Directive (token_of progress.old.names [] word)) >>> λ n. spec.directive w u enter path.now hash (token_of progress.old.names [] word).text (tokens_of progress.old.names rest.now)) d) }
     ensures names { progress.new.names ≡ progress.old.names }
     ensures good { OnOk result (IsProgress progress.new) }
+    ensures reading { OnOk result (progress.new.reading ≡ progress.old.reading) }
 {
     progress.note(Role::Directive, word)?;
     let asked = asked_by(text(&progress.names, word.text));

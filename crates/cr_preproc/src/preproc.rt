@@ -9,6 +9,7 @@ ghost use Rattle.cr_preproc.specs.declared.turning.Doing.{Doing as TheDoing};
 ghost use Rattle.cr_preproc.specs.Search.{world_of};
 ghost use Rattle.cr_preproc.specs.Turning.{IsTurned, IsOpened};
 ghost use Rattle.cr_preproc.specs.Progressing.{IsProgress};
+ghost use Rattle.cr_preproc.specs.Falling.{Falls, CountsFile, TurnFalls};
 ghost use Rattle.cr_preproc.specs.Preprocessing.{does_first_file};
 ghost use Rattle.cr_macros.specs.Tokens.{Text};
 ghost use Rattle.cr_preproc.specs.Preprocs.{IsFresh, IsPreproc, IsPreStep, IsTurn, IsOuter, IsSameUnit, IsSilent, answer_of, path_of, next_of, IsOfSearch, GoesByTheDefinition, EndsByTheDefinition};
@@ -135,7 +136,7 @@ impl Preproc {
         ensures good { IsPreproc snapshot.now self.new }
         ensures memory { OnErr result (self.new.ending ≡ Some Ending.OutOfMemory) }
     {
-        for _ in 0..u64::MAX {
+        'turns: loop {
             match self.turn(snapshot) {
                 Ok(None) => {
                     if let Some(ending) = self.ending {
@@ -155,6 +156,7 @@ impl Preproc {
         requires good { IsPreproc snapshot.now self.old }
         requires going { self.old.ending ≡ None }
         ensures turn { IfOk result (λ turn. IsTurn snapshot.now self.old self.new turn) }
+        ensures falls { IfOk result (λ turn. TurnFalls self.old self.new turn) }
     {
         self.progress.check_room()?;
         match &mut self.file {
@@ -189,8 +191,9 @@ impl Preproc {
 
     // What comes of a turn in the innermost file.
     fn follow(&mut self, turned: Turned) -> Result<Option<PreTurn>, OutOfMemory>
-        ensures { (files : ListOf TheFile) (p : ThePreproc) (f g : TheOpenFile) → IsSameUnit p self.old → p.file ≡ Some f → self.old.file ≡ Some g → IsOuter files p.progress.names p.outer.items
+        ensures turn { (files : ListOf TheFile) (p : ThePreproc) (f g : TheOpenFile) → IsSameUnit p self.old → p.file ≡ Some f → self.old.file ≡ Some g → IsOuter files p.progress.names p.outer.items
             → IsTurned (world_of files) p.unit files p.progress self.old.progress f g p.doing self.old.doing turned → IfOk result (λ turn. IsTurn files p self.new turn) }
+        ensures falls { (p : ThePreproc) (f g : TheOpenFile) → IsSameUnit p self.old → p.file ≡ Some f → self.old.file ≡ Some g → Falls p.progress self.old.progress f g p.doing self.old.doing turned → IfOk result (λ turn. TurnFalls p self.new turn) }
     {
         match turned {
             Turned::Steps => Ok(Some(PreTurn::More)),
@@ -230,6 +233,7 @@ impl Preproc {
         requires room { length self.old.progress.names < 2 ^ 31 }
         requires file { self.old.file ≡ None }
         ensures turn { IfOk result (λ turn. IsTurn snapshot.now self.old self.new turn) }
+        ensures falls { IfOk result (λ turn. TurnFalls self.old self.new turn) }
     {
         match self.first_path()? {
             None => {
@@ -250,6 +254,7 @@ impl Preproc {
         requires room { length self.old.progress.names < 2 ^ 31 }
         ensures opened { (u : TheUnit) → IfOk result (λ t. IsOpened (world_of snapshot.now) u snapshot.now self.old.progress self.new.progress (does_first_file (world_of snapshot.now) u path) t) }
         ensures rest { self.new ≡ record self.old { progress = self.new.progress } }
+        ensures counts { IfOk result (λ t. CountsFile self.old.progress self.new.progress t) }
     {
         let number = snapshot.number(&path);
         let mut paths = Vec::new(self.alloc);
@@ -269,8 +274,9 @@ impl Preproc {
     // What comes of that.
     fn follow_first(&mut self, turned: Turned) -> Option<PreTurn>
         requires { IsOfSearch turned }
-        ensures { (files : ListOf TheFile) (p : ThePreproc) (path : Text) → IsSameUnit p self.old → p.file ≡ None → self.old.file ≡ None → p.doing ≡ self.old.doing → IsPreproc files p → path_of p.unit p.firsts ≡ Some path
+        ensures turn { (files : ListOf TheFile) (p : ThePreproc) (path : Text) → IsSameUnit p self.old → p.file ≡ None → self.old.file ≡ None → p.doing ≡ self.old.doing → IsPreproc files p → path_of p.unit p.firsts ≡ Some path
             → IsOpened (world_of files) p.unit files p.progress self.old.progress (does_first_file (world_of files) p.unit path) turned → IsTurn files p self.new result }
+        ensures falls { (p : ThePreproc) (path : Text) → IsSameUnit p self.old → p.file ≡ None → self.old.file ≡ None → path_of p.unit p.firsts ≡ Some path → CountsFile p.progress self.old.progress turned → TurnFalls p self.new result }
     {
         match turned {
             Turned::Needs(paths) => Some(PreTurn::Needs(paths)),

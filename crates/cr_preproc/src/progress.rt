@@ -104,6 +104,7 @@ impl Progress {
         ensures did { OnOk result (Did 0 self.old self.new (tell (marks role (token_of self.old.names [] t))) Done) }
         ensures seen { OnOk result (IsSeen self.old self.new (seen_as (text_of self.old.names self.old.renaming.old) (text_of self.old.names self.old.renaming.new) role (token_of self.old.names [] t))) }
         ensures names { self.new.names ≡ self.old.names }
+        ensures reading { OnOk result (self.new.reading ≡ self.old.reading) }
     {
         note(&mut self.trace.seen, &self.names, self.renaming, role, t)?;
         Ok(())
@@ -115,6 +116,7 @@ impl Progress {
         requires role { IsNotOpaque role }
         ensures did { OnOk result (Did 0 self.old self.new (tell (all_marks role (tokens_of self.old.names tokens.now))) Done) }
         ensures names { self.new.names ≡ self.old.names }
+        ensures reading { OnOk result (self.new.reading ≡ self.old.reading) }
     {
         note_all(
             &mut self.trace.seen,
@@ -131,6 +133,7 @@ impl Progress {
         requires good { IsProgress self.old }
         ensures did { OnOk result (Did 0 self.old self.new (tell (all_marks Role.Opaque (tokens_of self.old.names tokens.now))) Done) }
         ensures names { self.new.names ≡ self.old.names }
+        ensures reading { OnOk result (self.new.reading ≡ self.old.reading) }
     {
         let before = self.trace.seen.len();
         note_all(
@@ -160,6 +163,7 @@ impl Progress {
         requires defined { is_some (macros_of self.old.names self.old.macros (text_of self.old.names name.text)) ≡ true }
         ensures traced { (m : MacroText) → macros_of self.old.names self.old.macros (text_of self.old.names name.text) ≡ Some m → OnOk result (IsTraced self.old self.new (definition_events (definition_of self.old.names name behind.now m))) }
         ensures names { self.new.names ≡ self.old.names }
+        ensures reading { OnOk result (self.new.reading ≡ self.old.reading) }
     {
         let Some(m) = self.macros.lookup(name.text) else {
             unreachable!()
@@ -178,6 +182,7 @@ impl Progress {
         requires defined { (d : Definition) × (spec.definition (tokens_of self.old.names (drop 2 line.now)) ≡ Some d) × (macros_of self.old.names self.old.macros d.name.text ≡ Some d.macro) }
         ensures traced { (d : Definition) → spec.definition (tokens_of self.old.names (drop 2 line.now)) ≡ Some d → macros_of self.old.names self.old.macros d.name.text ≡ Some d.macro → OnOk result (IsTraced self.old self.new (definition_events d)) }
         ensures names { self.new.names ≡ self.old.names }
+        ensures reading { OnOk result (self.new.reading ≡ self.old.reading) }
     {
         self.note_define(name_of(line), behind_name(line))?;
         Ok(())
@@ -193,6 +198,7 @@ impl Progress {
         ensures carried { IfOk result (λ carried. carried ≡ true → (hash : ThePlace) → Did 0 self.old self.new (defines hash (spec.definition (tokens_of self.old.names (drop 2 line.now)))) Done) }
         ensures wrong { IfOk result (λ carried. carried ≡ false → (spec.definition (tokens_of self.old.names (drop 2 line.now)) ≡ None) × (self.new ≡ self.old)) }
         ensures names { self.new.names ≡ self.old.names }
+        ensures reading { OnOk result (self.new.reading ≡ self.old.reading) }
     {
         defined_macros_are_known();
         match define(&mut self.macros, &self.names, line) {
@@ -212,6 +218,7 @@ impl Progress {
         ensures carried { IfOk result (λ carried. carried ≡ true → (hash : ThePlace) → Did 0 self.old self.new (undefines hash (spec.undefined_name (tokens_of self.old.names tokens.now))) Done) }
         ensures wrong { IfOk result (λ carried. carried ≡ false → (spec.undefined_name (tokens_of self.old.names tokens.now) ≡ None) × (self.new ≡ self.old)) }
         ensures names { self.new.names ≡ self.old.names }
+        ensures reading { OnOk result (self.new.reading ≡ self.old.reading) }
     {
         defined_macros_are_known();
         let Some(name) = undefined_name(&self.names, tokens) else {
@@ -227,6 +234,7 @@ impl Progress {
         requires good { IsProgress self.old }
         ensures did { OnOk result (Did 0 self.old self.new (change (λ s. record s { once = with_text s.once path.now })) Done) }
         ensures names { self.new.names ≡ self.old.names }
+        ensures reading { OnOk result (self.new.reading ≡ self.old.reading) }
     {
         self.once.add(path)
     }

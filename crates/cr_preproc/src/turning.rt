@@ -9,6 +9,8 @@ ghost use Rattle.cr_snapshot.specs.declared.known.KnownFile.{KnownFile as TheFil
 ghost use Rattle.cr_snapshot.specs.Files.{finding, Present};
 ghost use Rattle.cr_snapshot.specs.IncludeSearch.{candidates};
 ghost use Rattle.cr_preproc.specs.declared.progress.Progress.{Progress as TheProgress};
+ghost use Rattle.cr_preproc.specs.declared.expansion.Expansion.{Expansion as TheExpansion};
+ghost use Rattle.cr_preproc.specs.declared.open_file.OpenFile.{OpenFile as TheOpenFile};
 ghost use Rattle.cr_preproc.specs.declared.turning.Doing.{Doing as TheDoing};
 ghost use Rattle.cr_preproc.specs.Tasks.{State, Task, Nothing, Done, Reply, Ends, Goes, go_on, ◌>>>◌, in_directive, moved};
 ghost use Rattle.cr_preproc.specs.Lines as lines;
@@ -25,6 +27,7 @@ ghost use Rattle.cr_preproc.specs.Expanding.{end_by, IsUsed, IsExpanding, still_
 ghost use Rattle.cr_preproc.specs.Leading.{Leads, IsLed, IsDirected, decided, includes_given, list_left, run_left};
 ghost use Rattle.cr_preproc.specs.Turning.{doing_left, then_left, file_goes, carried, directed_left, ended_behind, enters, IsDoing, IsWorking, IsTurned, IsNext, IsBehind, IsOpened, IsEnded, AreAsked, led_left, LooksAt, IsSmall, IsFitting, WantsNoFile, decision_left};
 ghost use Rattle.cr_preproc.specs.RunTurns.{IsGiving};
+ghost use Rattle.cr_preproc.specs.Falling.{then_rank, rank, Falls, CountsFile, IsBelow, IsUnexpanded};
 ghost use Rattle.cr_preproc.specs.Seen.{AreNamed, IsNamed, seen_search};
 
 use crate::conditional::{Decision, Led, choose, conditional, decide};
@@ -131,6 +134,7 @@ fn expand_run(
     requires run { AreNamed progress.now.names file.now.run.items }
     ensures left { (w : World) (u : TheUnit) (files : ListOf TheFile) (k : Task Nothing) → IsOpen progress.now.names files file.now → IfOk result (λ d. doing_left w u progress.now (reading_of progress.now.names files file.now) k d ≡ then_left w u (reading_of progress.now.names files file.now) k then (runs file.now.path (tokens_of progress.now.names file.now.run.items) (state_of progress.now))) }
     ensures does { IfOk result (λ d. IsDoing progress.now file.now d) }
+    ensures falls { (f : TheOpenFile) → IfOk result (λ d. rank f d ≡ then_rank then) }
 {
     let place = site_of(start_of(file), &file.run);
     let expansion = Expansion::new(alloc, progress, file.literal, place, &file.run)?;
@@ -151,6 +155,7 @@ fn take(
     requires line { LacksLine (reading_of progress.old.names snapshot.now file.old) }
     requires token { TellsNext (reading_of progress.old.names snapshot.now file.old) Coming.Token }
     ensures turned { (u : TheUnit) → IfOk result (λ t. IsTurned (world_of snapshot.now) u snapshot.now progress.old progress.new file.old file.new doing.old doing.new t) }
+    ensures falls { IfOk result (λ t. Falls progress.old progress.new file.old file.new doing.old doing.new t) }
 {
     if !progress.may_read() {
         let place = site_of(start_of(file), &file.line);
@@ -174,7 +179,8 @@ fn take(
 
 // What comes of the end of a file.
 fn closing(file: &OpenFile) -> Then
-    ensures { (w : World) (u : TheUnit) (r : Reading) (k : Task Nothing) (path : Text) (run : ListOf Token) (s : State) → (at_end path run None file.now.open_ifs >>> λ d. k) s ≡ then_left w u r k result (runs path run s) }
+    ensures left { (w : World) (u : TheUnit) (r : Reading) (k : Task Nothing) (path : Text) (run : ListOf Token) (s : State) → (at_end path run None file.now.open_ifs >>> λ d. k) s ≡ then_left w u r k result (runs path run s) }
+    ensures falls { then_rank result ≡ 1 }
 {
     match file.open_ifs.first() {
         None => Then::Close,
@@ -196,6 +202,7 @@ fn read(
     requires room { length progress.old.names < 2 ^ 31 }
     requires reads { doing.old ≡ Doing.Reads }
     ensures turned { (u : TheUnit) → IfOk result (λ t. IsTurned (world_of snapshot.now) u snapshot.now progress.old progress.new file.old file.new doing.old doing.new t) }
+    ensures falls { IfOk result (λ t. Falls progress.old progress.new file.old file.new doing.old doing.new t) }
 {
     if file.has_line() {
         *doing = carry_out(alloc, progress, file)?;
@@ -227,6 +234,8 @@ fn carry_out(
     requires run { AreNamed progress.old.names file.old.run.items }
     requires line { AreNamed progress.old.names file.old.line.items }
     ensures next { (w : World) (u : TheUnit) (files : ListOf TheFile) → IsWorking files progress.old file.old Doing.Reads → HasLine (reading_of progress.old.names files file.old) → IfOk result (λ e. IsNext w u files progress.old progress.new file.new e (λ k. doing_left w u progress.old (reading_of progress.old.names files file.old) k Doing.Reads)) }
+    ensures reading { OnOk result (progress.new.reading ≡ progress.old.reading) }
+    ensures falls { IfOk result (λ e. rank file.new e < 6) }
 {
     match line_of(&progress.names, &file.line) {
         Line::Plain => {
@@ -265,6 +274,7 @@ fn follow(
     requires asked { AreAsked progress.now.names led }
     ensures next { (w : World) (u : TheUnit) (files : ListOf TheFile) (k : Task Nothing) → IsWorking files progress.now file.old Doing.Reads → IfOk result (λ e. doing_left w u progress.now (reading_of progress.now.names files file.new) k e ≡ led_left w u progress.now (reading_of progress.now.names files file.old) k hash led) }
     ensures working { (files : ListOf TheFile) → IsWorking files progress.now file.old Doing.Reads → IfOk result (λ e. IsWorking files progress.now file.new e) }
+    ensures falls { IfOk result (λ e. rank file.new e < 6) }
 {
     match led {
         Led::Goes => {
@@ -293,6 +303,7 @@ pub fn open(
     requires bytes { length bytes.now ≤ 16777216 }
     ensures opened { (w : World) (u : TheUnit) (site : ThePlace) (files : ListOf TheFile) → finding path files ≡ Present number.0 bytes.now → IfOk result (λ t. IsOpened w u files progress.old progress.new (opens_found (enters w u levels) site (searching.Finds path number.0 bytes.now)) t) }
     ensures wants { IfOk result (λ t. WantsNoFile t) }
+    ensures counts { IfOk result (λ t. CountsFile progress.old progress.new t) }
 {
     defined_macros_are_known();
     if progress.once.has(path.bytes()) {
@@ -331,6 +342,7 @@ pub fn after_search(
     requires room { length progress.old.names < 2 ^ 31 }
     requires small { IsSmall found }
     ensures opened { (u : TheUnit) (files : ListOf TheFile) (paths : ListOf Text) → seen_search found.entry ≡ searching.search (λ path. finding path files) paths → IfOk result (λ t. IsOpened (world_of files) u files progress.old progress.new (opens (world_of files) (enters (world_of files) u levels) site paths) t) }
+    ensures counts { IfOk result (λ t. CountsFile progress.old progress.new t) }
 {
     match found {
         Search::Lacks(paths) => Ok(Turned::Needs(paths)),
@@ -376,6 +388,8 @@ fn follow_directed(
     requires open { IsOpen progress.now.names snapshot.now file.now }
     requires rest { AreNamed progress.now.names rest.now }
     ensures behind { (old : TheProgress) (m : Task Nothing) → progress.now.names ≡ old.names → IsDirected (world_of snapshot.now) unit.now (does_file (world_of snapshot.now) unit.now file.now.levels) file.now.path hash (tokens_of progress.now.names rest.now) old progress.now m directed → IfOk result (λ next. IsBehind (world_of snapshot.now) unit.now snapshot.now old progress.now file.now (λ k. directed_left (world_of snapshot.now) unit.now old (reading_of old.names snapshot.now file.now) k m) next) }
+    ensures falls { IfOk result (λ next. IsBelow 5 next) }
+    ensures unexpanded { IsUnexpanded directed → IfOk result (λ next. IsBelow 4 next) }
 {
     match directed {
         Directed::Goes => Ok(Ok(Doing::Reads)),
@@ -405,6 +419,8 @@ fn directive(
     requires line { length file.now.line.items ≤ 33554432 }
     ensures behind { IfOk result (λ next. IsBehind (world_of snapshot.now) unit.now snapshot.now progress.old progress.new file.now (λ k. (carried (world_of snapshot.now) unit.now (reading_of progress.old.names snapshot.now file.now) (lines.line_of (tokens_of progress.old.names file.now.line.items)) >>> λ n. k) (state_of progress.old)) next) }
     ensures names { progress.new.names ≡ progress.old.names }
+    ensures reading { OnOk result (progress.new.reading ≡ progress.old.reading) }
+    ensures falls { IfOk result (λ next. IsBelow 5 next) }
 {
     match line_of(&progress.names, &file.line) {
         Line::Directive(hash, word, rest) => {
@@ -426,7 +442,8 @@ fn directive(
 
 // Goes on so behind a line that ends the run, or ends the unit.
 fn behind_run(file: &mut OpenFile, doing: &mut Doing, next: Result<Doing, Fault>) -> Turned
-    ensures { (w : World) (u : TheUnit) (files : ListOf TheFile) (p q : TheProgress) (d : TheDoing) → IsOpen q.names files file.old → IsBehind w u files p q file.old (λ k. doing_left w u p (reading_of p.names files file.old) k d) next → IsTurned w u files p q file.old file.new d doing.new result }
+    ensures turned { (w : World) (u : TheUnit) (files : ListOf TheFile) (p q : TheProgress) (d : TheDoing) → IsOpen q.names files file.old → IsBehind w u files p q file.old (λ k. doing_left w u p (reading_of p.names files file.old) k d) next → IsTurned w u files p q file.old file.new d doing.new result }
+    ensures falls { (p q : TheProgress) (d : TheDoing) → q.reading ≤ p.reading → IsBelow (rank file.old d) next → Falls p q file.old file.new d doing.new result }
 {
     match next {
         Err(fault) => Turned::Ends(fault),
@@ -452,6 +469,7 @@ fn after_run(
     requires open { IsOpen progress.old.names snapshot.now file.old }
     requires line { length file.old.line.items + progress.old.reading ≤ 33554432 }
     ensures turned { (p : TheProgress) (d : TheDoing) → IsProgress p → ((k : Task Nothing) → Leads 0 p progress.old (doing_left (world_of snapshot.now) unit.now p (reading_of p.names snapshot.now file.old) k d) (then_left (world_of snapshot.now) unit.now (reading_of progress.old.names snapshot.now file.old) k then (Goes Done (state_of progress.old) []))) → IfOk result (λ t. IsTurned (world_of snapshot.now) unit.now snapshot.now p progress.new file.old file.new d doing.new t) }
+    ensures falls { (p : TheProgress) (e : TheExpansion) → p.reading ≡ progress.old.reading → IfOk result (λ t. Falls p progress.new file.old file.new (Doing.Expands e then) doing.new t) }
 {
     match then {
         Then::Fails(fault) => Ok(Turned::Ends(fault)),
@@ -496,6 +514,8 @@ fn after_decision(
     requires before { before ≤ LIMIT }
     ensures next { (w : World) (u : TheUnit) (files : ListOf TheFile) → IsOpen progress.old.names files file.old → IsFitting progress.old file.old → IfOk result (λ e. IsNext w u files (record progress.old { used = before }) progress.new file.new e
         (λ k. decision_left w u (reading_of progress.old.names files file.old) k (state_of (record progress.old { used = before })) (decided decision hash (reading_of progress.old.names files file.old).open_ifs (tokens_of progress.old.names given.now) (state_of progress.old)))) }
+    ensures reading { OnOk result (progress.new.reading ≡ progress.old.reading) }
+    ensures falls { IfOk result (λ e. rank file.new e < 5) }
 {
     match decide(alloc, progress, hash, given)? {
         Ok(holds) => {
@@ -535,6 +555,8 @@ fn after_include(
     requires open { IsOpen progress.old.names snapshot.now file.now }
     ensures behind { IfOk result (λ next. IsBehind (world_of snapshot.now) unit.now snapshot.now progress.old progress.new file.now (λ k. directed_left (world_of snapshot.now) unit.now progress.old (reading_of progress.old.names snapshot.now file.now) k (includes_given (world_of snapshot.now) unit.now (does_file (world_of snapshot.now) unit.now file.now.levels) file.now.path hash (tokens_of progress.old.names given.now))) next) }
     ensures names { progress.new.names ≡ progress.old.names }
+    ensures reading { OnOk result (progress.new.reading ≡ progress.old.reading) }
+    ensures falls { IfOk result (λ next. IsBelow 4 next) }
 {
     let directed = include_given(alloc, progress, hash, given)?;
     let next = follow_directed(alloc, unit, snapshot, progress, file, hash, &[], directed)?;
@@ -553,6 +575,7 @@ pub fn turn(
     requires working { IsWorking snapshot.now progress.old file.old doing.old }
     requires room { length progress.old.names < 2 ^ 31 }
     ensures turned { IfOk result (λ t. IsTurned (world_of snapshot.now) unit.now snapshot.now progress.old progress.new file.old file.new doing.old doing.new t) }
+    ensures falls { IfOk result (λ t. Falls progress.old progress.new file.old file.new doing.old doing.new t) }
 {
     match replace(doing, Doing::Reads) {
         Doing::Reads => {
@@ -598,6 +621,7 @@ fn look_turn(
     requires room { length progress.old.names < 2 ^ 31 }
     requires reads { doing.old ≡ Doing.Reads }
     ensures turned { (u : TheUnit) → IfOk result (λ t. IsTurned (world_of snapshot.now) u snapshot.now progress.old progress.new file.old file.new (Doing.Looks paths site) doing.new t) }
+    ensures falls { IfOk result (λ t. Falls progress.old progress.new file.old file.new (Doing.Looks paths site) doing.new t) }
 {
     let levels = file.levels.checked_sub(1);
     let found = first_file(alloc, snapshot, &paths)?;
@@ -627,6 +651,7 @@ fn run_turn(
     requires expanding { IsExpanding progress.old expansion }
     requires literal { expansion.expander.machine.file ≡ file.old.literal }
     ensures turned { IfOk result (λ t. IsTurned (world_of snapshot.now) unit.now snapshot.now progress.old progress.new file.old file.new (Doing.Expands expansion then) doing.new t) }
+    ensures falls { IfOk result (λ t. Falls progress.old progress.new file.old file.new (Doing.Expands expansion then) doing.new t) }
 {
     defined_macros_are_known();
     match expansion.step(progress)? {
@@ -667,6 +692,7 @@ fn decide_turn(
     requires given { AreNamed progress.old.names given.items }
     requires run { AreNamed progress.old.names file.old.run.items }
     ensures turned { (w : World) (u : TheUnit) (files : ListOf TheFile) → IsOpen progress.old.names files file.old → IsFitting progress.old file.old → IfOk result (λ t. IsTurned w u files progress.old progress.new file.old file.new (Doing.Decides expansion given decision hash) doing.new t) }
+    ensures falls { IfOk result (λ t. Falls progress.old progress.new file.old file.new (Doing.Decides expansion given decision hash) doing.new t) }
 {
     defined_macros_are_known();
     match expansion.step(progress)? {
@@ -711,6 +737,7 @@ fn include_turn(
     requires literal { expansion.expander.machine.file ≡ file.old.literal }
     requires given { AreNamed progress.old.names given.items }
     ensures turned { IfOk result (λ t. IsTurned (world_of snapshot.now) unit.now snapshot.now progress.old progress.new file.old file.new (Doing.Includes expansion given hash) doing.new t) }
+    ensures falls { IfOk result (λ t. Falls progress.old progress.new file.old file.new (Doing.Includes expansion given hash) doing.new t) }
 {
     defined_macros_are_known();
     match expansion.step(progress)? {

@@ -1,6 +1,7 @@
 use Rattle.std.proofs.Common.{◌≡◌, ◌+◌, ◌≤◌, ℕ, [], List, length, Result, Ok, Err, Bool, refl, sym, ap, ◌∙◌, subst, arith}
 use Rattle.cr_macros.specs.Tokens.{Text, tokens_of}
 use Rattle.cr_preproc.specs.declared.expansion.Fault.{Fault}
+use Rattle.cr_preproc.specs.declared.turning.Doing.TheVariants as doing
 use Rattle.cr_preproc.specs.declared.open_ifs.OpenIf.{OpenIf}
 use Rattle.cr_preproc.specs.OpenFiles.{Reading, reading_of, IsOpen}
 use Rattle.cr_preproc.specs.Progressing.{state_of}
@@ -9,6 +10,7 @@ use Rattle.cr_preproc.specs.Expanding.{end_by}
 use Rattle.cr_preproc.proofs.Leadings.{leads_to}
 use Rattle.cr_preproc.proofs.OpenLater.{ifs_open}
 use Rattle.cr_preproc.proofs.ListsLeft.{decided_ok, decided_fails, goes_chosen, fails_same, again, good_used}
+use Rattle.cr_preproc.proofs.Falls.{empty_below, rank_below}
 use Rattle.cr_preproc.proofs.turning.after_decision.Goals as goal
 
 pub returns-in_ok-choose-in-Ok : goal.returns-in_ok-choose-in-Ok
@@ -38,6 +40,8 @@ returns-in_ok-choose-in-Ok c = record {
           does = tt;
         },
       );
+  reading = c.in_ok-holds.ensures.reading;
+  falls = empty_below c.end_line.new.self doing.Reads 5 (omega arith) c.end_line.ensures.line refl;
 }
 
 pub returns-in_ok-doing-in-Err : goal.returns-in_ok-doing-in-Err
@@ -64,4 +68,6 @@ returns-in_ok-doing-in-Err c = record {
           does = c.in_ok-doing-in-Err.ensures.does;
         },
       );
+  reading = c.in_ok-holds.ensures.reading;
+  falls = rank_below c.args.file.now c.in_ok-doing-in-Err.doing 1 5 (omega arith) (c.in_ok-doing-in-Err.ensures.falls c.args.file.now);
 }

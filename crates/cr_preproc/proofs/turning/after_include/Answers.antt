@@ -12,3 +12,6 @@ returns-clause-behind c =
     let p = c.args.progress.now in
     let f = c.args.file.now in
     c.in_ok-next.ensures.behind p (includes_given w u (does_file w u f.levels) f.path c.args.hash (tokens_of p.names c.args.given.now)) c.include_given.ensures.names (c.in_ok-directed.ensures.directed w u (does_file w u f.levels) f.path [])
+
+pub returns-clause-falls : goal.returns-clause-falls
+returns-clause-falls c = c.in_ok-next.ensures.unexpanded c.in_ok-directed.ensures.unexpanded

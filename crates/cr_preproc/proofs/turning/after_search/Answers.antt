@@ -1,4 +1,4 @@
-use Rattle.std.proofs.Common.{◌≡◌, sym, ap, ◌∙◌}
+use Rattle.std.proofs.Common.{◌≡◌, refl, sym, ap, ◌∙◌}
 use Rattle.cr_snapshot.specs.Files.{finding}
 use Rattle.cr_preproc.specs.Search as searching
 use Rattle.cr_preproc.specs.Search.{world_of}
@@ -6,12 +6,14 @@ use Rattle.cr_preproc.specs.Directives.{opens, opens_found}
 use Rattle.cr_preproc.specs.Seen.{seen_search}
 use Rattle.cr_preproc.specs.Turning.{enters}
 use Rattle.cr_preproc.proofs.Openings.{misses_file, finds_file, found_present, opened_behind}
+use Rattle.cr_preproc.proofs.Falls.{same_most}
 use Rattle.cr_preproc.proofs.turning.after_search.Goals as goal
 
 pub returns-in-Misses : goal.returns-in-Misses
 returns-in-Misses c = record {
   opened = λ u files paths e.
       (misses_file (world_of files) (enters (world_of files) u c.args.levels) c.args.site paths c.args.progress.now (sym (ap seen_search c.in-Misses.is) ∙ e), c.requires.good);
+  counts = same_most c.args.progress.now c.args.progress.now refl;
 }
 
 pub returns-in_ok-turned-in-Finds : goal.returns-in_ok-turned-in-Finds
@@ -28,4 +30,5 @@ returns-in_ok-turned-in-Finds c = record {
       (finds_file w enter c.args.site paths path n bytes p found)
       c.in_ok-turned-in-Finds.ensures.wants
       (c.in_ok-turned-in-Finds.ensures.opened w u c.args.site files (found_present (λ path. finding path files) paths path n bytes found));
+  counts = c.in_ok-turned-in-Finds.ensures.counts;
 }

@@ -1,13 +1,15 @@
-use Rattle.std.proofs.Common.{◌≡◌, [], refl, sym, ap, ◌∙◌}
+use Rattle.std.proofs.Common.{◌≡◌, [], refl, sym, ap, ◌∙◌, arith}
 use Rattle.cr_macros.specs.Tokens.{token_of, tokens_of}
 use Rattle.cr_preproc.specs.Conditionals.{is_live}
 use Rattle.cr_preproc.specs.Lines.{Plain, Conditional, line_of}
 use Rattle.cr_preproc.specs.OpenFiles.{Reading}
 use Rattle.cr_preproc.specs.Seen.{seen_line}
+use Rattle.cr_preproc.specs.declared.turning.Doing.TheVariants as doing
 use Rattle.cr_preproc.specs.declared.turning.Then.TheVariants as then
 use Rattle.cr_preproc.proofs.LineTurns.{word_does, led_names, led_asks}
 use Rattle.cr_preproc.proofs.NextTurns.{parts_named, plain_next, skipped_next, directive_next, other_line, conditional_works, conditional_next}
 use Rattle.cr_preproc.proofs.OpenLater.{given_later, named_later}
+use Rattle.cr_preproc.proofs.Falls.{empty_below, conditional_reads, rank_below}
 use Rattle.cr_preproc.proofs.turning.carry_out.Goals as goal
 
 pub conditional-requires-clause-word : goal.conditional-requires-clause-word
@@ -52,6 +54,8 @@ returns-in_ok-put_text-in-Plain c = record {
       (c.end_line.ensures.reads names files ∙ ap (λ (x : Reading). record x { taken = [] }) (c.in_ok-put_text-in-Plain.ensures.reads files))
       (c.end_line.ensures.open names files (c.in_ok-put_text-in-Plain.ensures.open files works.file))
       c.end_line.ensures.line;
+  reading = refl;
+  falls = empty_below c.end_line.new.self doing.Reads 6 (omega arith) c.end_line.ensures.line refl;
 }
 
 pub returns-in_ok-next-in-Conditional : goal.returns-in_ok-next-in-Conditional
@@ -70,6 +74,12 @@ returns-in_ok-next-in-Conditional c = record {
       (d.ensures.seen ∙ ap (λ l. line_of (tokens_of p.names l)) c.deref.ensures.value)
       (λ k. c.in_ok-next-in-Conditional.ensures.next w u files k then_works)
       (c.in_ok-next-in-Conditional.ensures.working files then_works);
+  reading =
+      let p = c.args.progress.now in
+      let f = c.args.file.now in
+      let d = c.in-Conditional in
+      conditional_reads f.path p c.conditional.new.progress d.hash f.open_ifs c.conditional.new.open_ifs (token_of p.names [] d.t) d.word (tokens_of p.names d.rest.now) c.in_ok-led-in-Conditional.led (c.in_ok-led-in-Conditional.ensures.led f.path);
+  falls = c.in_ok-next-in-Conditional.ensures.falls;
 }
 
 pub returns-in_ok-begun-in-Directive : goal.returns-in_ok-begun-in-Directive
@@ -83,6 +93,8 @@ returns-in_ok-begun-in-Directive c = record {
       (other_line names c.line_of.result c.in-Directive.is)
       (sym c.is_live.ensures ∙ c.if-is_live.true)
       refl;
+  reading = refl;
+  falls = rank_below c.args.file.now c.in_ok-begun-in-Directive.begun 5 6 (omega arith) (c.in_ok-begun-in-Directive.ensures.falls c.args.file.now);
 }
 
 pub returns-else-is_live : goal.returns-else-is_live
@@ -96,4 +108,6 @@ returns-else-is_live c = record {
       (c.end_line-else-is_live.ensures.reads names files)
       (c.end_line-else-is_live.ensures.open names files works.file)
       c.end_line-else-is_live.ensures.line;
+  reading = refl;
+  falls = empty_below c.end_line-else-is_live.new.self doing.Reads 6 (omega arith) c.end_line-else-is_live.ensures.line refl;
 }

@@ -4,6 +4,7 @@ use Rattle.cr_expand.specs.Expanders.{plain}
 use Rattle.cr_preproc.specs.declared.progress.Progress.{Progress}
 use Rattle.cr_preproc.specs.declared.expansion.Use.{Use}
 use Rattle.cr_preproc.specs.declared.expansion.Use.TheVariants as use1
+use Rattle.cr_preproc.specs.declared.turning.Doing.TheVariants as doing
 use Rattle.cr_preproc.specs.OpenFiles.{reading_of, IsOpen}
 use Rattle.cr_preproc.specs.Runs.{runs}
 use Rattle.cr_preproc.specs.Turning.{IsFitting}
@@ -15,6 +16,7 @@ use Rattle.cr_preproc.proofs.Leadings.{leads_to}
 use Rattle.cr_preproc.proofs.NamesGrow.{tokens_later, all_named_later}
 use Rattle.cr_preproc.proofs.OpenLater.{reading_later, open_later}
 use Rattle.cr_preproc.proofs.ListsLeft.{decides_on, decides_same, noted_state, given_plain, named_put}
+use Rattle.cr_preproc.proofs.Falls.{falls_to, run_falls}
 use Rattle.cr_preproc.proofs.turning.decide_turn.Goals as goal
 
 pub returns-in-Goes : goal.returns-in-Goes
@@ -43,6 +45,7 @@ returns-in-Goes c = record {
           does = (used.5, used.6 ∙ c.requires.literal, all_named_later p.names q.names given g c.requires.given);
         },
       );
+  falls = tt;
 }
 
 pub returns-in_ok-push-in-Gives : goal.returns-in_ok-push-in-Gives
@@ -74,6 +77,7 @@ returns-in_ok-push-in-Gives c = record {
           does = (used.9, used.10 ∙ c.requires.literal, subst (AreNamed q.names) (sym put) (named_put q.names given t (all_named_later p.names q.names given g c.requires.given) used.7));
         },
       );
+  falls = tt;
 }
 
 pub returns-in_ok-doing-in-Fails : goal.returns-in_ok-doing-in-Fails
@@ -101,6 +105,12 @@ returns-in_ok-doing-in-Fails c = record {
           does = c.in_ok-doing-in-Fails.ensures.does;
         },
       );
+  falls =
+      let p = c.args.progress.now in
+      let q = c.step.new.progress in
+      let f = c.args.file.now in
+      let used : IsUsed p q c.args.expansion c.step.new.self (use1.Fails c.in-Fails.fault) = subst (λ (x : Use). IsUsed p q c.args.expansion c.step.new.self x) c.in-Fails.is c.in_ok-step.ensures.used in
+      run_falls p q f f (doing.Decides c.args.expansion c.args.given c.args.decision c.args.hash) c.in_ok-doing-in-Fails.field-0 used.2.reading (c.in_ok-doing-in-Fails.ensures.falls f) (let h : 2 ≤ 5 = omega arith in h);
 }
 
 pub returns-in_ok-doing-in-Ends : goal.returns-in_ok-doing-in-Ends
@@ -116,4 +126,10 @@ returns-in_ok-doing-in-Ends c = record {
       let fits2 : IsFitting q f = subst (λ (y : Progress). IsFitting y f) (sym used.0) fits in
       ends_next w u files p q c.after_decision.new.progress f c.after_decision.new.file e1 e2 c.args.decision c.args.hash c.args.given.items c.deref.result.now c.used-progress.result c.in_ok-doing-in-Ends.field-0
       c.used-progress.ensures used c.deref.ensures.value (c.in_ok-doing-in-Ends.ensures.next w u files open2 fits2);
+  falls =
+      let p = c.args.progress.now in
+      let q = c.step.new.progress in
+      let f = c.args.file.now in
+      let used : IsUsed p q c.args.expansion c.step.new.self use1.Ends = subst (λ (x : Use). IsUsed p q c.args.expansion c.step.new.self x) c.in-Ends.is c.in_ok-step.ensures.used in
+      falls_to p c.after_decision.new.progress f c.after_decision.new.file (doing.Decides c.args.expansion c.args.given c.args.decision c.args.hash) c.in_ok-doing-in-Ends.field-0 (c.in_ok-doing-in-Ends.ensures.reading ∙ ap (λ x. x.reading) used.0) 5 c.in_ok-doing-in-Ends.ensures.falls (let h : 5 ≤ 5 = omega arith in h);
 }

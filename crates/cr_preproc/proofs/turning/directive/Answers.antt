@@ -1,4 +1,4 @@
-use Rattle.std.proofs.Common.{◌≡◌, ◌∷◌, ◌≤◌, length, drop, ap, sym, ◌∙◌, subst, List}
+use Rattle.std.proofs.Common.{◌≡◌, ◌∷◌, ◌≤◌, length, drop, ap, sym, ◌∙◌, subst, arith, List}
 use Rattle.std.specs.Prelude.{[]}
 use Rattle.std.specs.List.{AllByRecursion}
 use Rattle.cr_base.specs.declared.token.PpTok.{PpTok}
@@ -15,6 +15,7 @@ use Rattle.cr_preproc.specs.OpenFiles.{IsOpen}
 use Rattle.cr_preproc.specs.Leading.{IsDirected}
 use Rattle.cr_preproc.specs.Seen.{IsNamed, AreNamed, seen_line}
 use Rattle.cr_preproc.proofs.DirectiveTurns.{directive_behind, plain_behind, empty_behind, conditional_behind}
+use Rattle.cr_preproc.proofs.Falls.{below_reads}
 use Rattle.cr_preproc.proofs.turning.directive.Goals as goal
 
 pub returns-in_ok-next-in-Directive-clause-behind : goal.returns-in_ok-next-in-Directive-clause-behind
@@ -52,3 +53,12 @@ returns-in-Conditional-clause-behind c =
     let f = c.args.file.now in
     conditional_behind (world_of c.args.snapshot.now) c.args.unit.now c.args.snapshot.now p p f (lines.line_of (tokens_of p.names f.line.items)) _ _ _ _
     (sym (c.in-Conditional.ensures.seen ∙ ap (λ l. lines.line_of (tokens_of p.names l)) c.deref.ensures.value)) c.requires.good
+
+pub returns-in-Plain-clause-falls : goal.returns-in-Plain-clause-falls
+returns-in-Plain-clause-falls c = below_reads 5 (omega arith)
+
+pub returns-in-Empty-clause-falls : goal.returns-in-Empty-clause-falls
+returns-in-Empty-clause-falls c = below_reads 5 (omega arith)
+
+pub returns-in-Conditional-clause-falls : goal.returns-in-Conditional-clause-falls
+returns-in-Conditional-clause-falls c = below_reads 5 (omega arith)

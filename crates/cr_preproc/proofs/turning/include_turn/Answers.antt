@@ -1,4 +1,4 @@
-use Rattle.std.proofs.Common.{◌≡◌, ◌∙◌, List, [], sym, subst, refl, inl}
+use Rattle.std.proofs.Common.{◌≡◌, ◌∙◌, List, [], ap, sym, subst, refl, inl}
 use Rattle.cr_base.specs.declared.token.PpTok.{PpTok}
 use Rattle.cr_macros.specs.Tokens.{tokens_of}
 use Rattle.cr_preproc.specs.Tasks.{Task, Nothing, Ends}
@@ -14,6 +14,7 @@ use Rattle.cr_preproc.proofs.NamesGrow.{all_named_later}
 use Rattle.cr_preproc.proofs.Turns.{with_used}
 use Rattle.cr_preproc.proofs.IncludeTurns.{include_left, include_goes, include_gives, include_ends, include_fails, noted_working, named_push}
 use Rattle.cr_preproc.proofs.DirectiveTurns.{behind_from}
+use Rattle.cr_preproc.proofs.Falls.{same_most}
 use Rattle.cr_preproc.proofs.turning.include_turn.Goals as goal
 
 pub returns-in-Goes : goal.returns-in-Goes
@@ -26,6 +27,7 @@ returns-in-Goes c = record {
         noted_working c.args.snapshot.now p q c.args.file.now i.0 (doing.Includes c.step.new.self c.args.given c.args.hash) c.requires.open c.requires.line i.4 c.in_ok-step.ensures.good
             (i.5, i.6 ∙ c.requires.literal, all_named_later p.names q.names c.args.given.items i.4.told.names c.requires.given),
       );
+  falls = tt;
 }
 
 pub returns-in_ok-push-in-Gives : goal.returns-in_ok-push-in-Gives
@@ -43,6 +45,7 @@ returns-in_ok-push-in-Gives c = record {
         noted_working files p q c.args.file.now i.1 (doing.Includes c.step.new.self c.push.new.self c.args.hash) c.requires.open c.requires.line i.8 c.in_ok-step.ensures.good
             (i.9, i.10 ∙ c.requires.literal, named_push q.names c.args.given.items c.push.new.self.items c.in-Gives.t (all_named_later p.names q.names c.args.given.items i.8.told.names c.requires.given) i.7 c.in_ok-push-in-Gives.ensures.items),
       );
+  falls = tt;
 }
 
 pub returns-in-Fails : goal.returns-in-Fails
@@ -59,6 +62,7 @@ returns-in-Fails c = record {
             (include_fails w c.args.unit.now c.args.snapshot.now p q c.args.file.now c.args.expansion c.args.hash c.args.given.items (end_by c.in-Fails.fault) i.1 i.2.told k),
         c.in_ok-step.ensures.good,
       );
+  falls = tt;
 }
 
 pub returns-in_ok-next-in-Ends : goal.returns-in_ok-next-in-Ends
@@ -75,9 +79,14 @@ returns-in_ok-next-in-Ends c = record {
       let v = c.after_include.new.progress in
       let before = λ (k : Task Nothing). include_left w u p (reading_of p.names files f) k c.args.expansion c.args.given.items c.args.hash in
       let left = λ (l : List PpTok) (k : Task Nothing). directed_left w u (with_used q n) (reading_of q.names files f) k (includes_given w u (does_file w u f.levels) f.path c.args.hash (tokens_of q.names l)) in
-      c.behind_run.ensures w u files p v (doing.Includes c.args.expansion c.args.given c.args.hash)
+      c.behind_run.ensures.turned w u files p v (doing.Includes c.args.expansion c.args.given c.args.hash)
       (subst (λ names. IsOpen names files f) (sym c.after_include.ensures.names) (subst (λ y. IsOpen y.names files f) (sym i.0) c.requires.open))
       (behind_from w u files p (with_used q n) v f before (left c.args.given.items) c.in_ok-next-in-Ends.next c.requires.good
       (include_ends w u files p q f c.args.expansion c.step.new.self c.args.hash c.args.given.items n c.used-progress.ensures i)
       (subst (λ l. IsBehind w u files (with_used q n) v f (left l) c.in_ok-next-in-Ends.next) c.deref.ensures.value c.in_ok-next-in-Ends.ensures.behind));
+  falls =
+      let p = c.args.progress.now in
+      let v = c.after_include.new.progress in
+      let i : IsUsed p c.step.new.progress c.args.expansion c.step.new.self use1.Ends = subst (IsUsed p c.step.new.progress c.args.expansion c.step.new.self) c.in-Ends.is c.in_ok-step.ensures.used in
+      c.behind_run.ensures.falls p v (doing.Includes c.args.expansion c.args.given c.args.hash) (same_most p v (c.in_ok-next-in-Ends.ensures.reading ∙ ap (λ x. x.reading) i.0)) c.in_ok-next-in-Ends.ensures.falls;
 }

@@ -1,4 +1,4 @@
-use Rattle.std.proofs.Common.{◌≡◌, refl, sym, ap, ◌∙◌, subst}
+use Rattle.std.proofs.Common.{◌≡◌, refl, sym, ap, ◌∙◌, subst, arith}
 use Rattle.cr_snapshot.specs.Files.{finding}
 use Rattle.cr_preproc.specs.declared.turning.Doing.{Doing}
 use Rattle.cr_preproc.specs.declared.turning.Doing.TheVariants as doing
@@ -12,6 +12,7 @@ use Rattle.cr_preproc.specs.Progressing.{state_of}
 use Rattle.cr_preproc.specs.Seen.{seen_search}
 use Rattle.cr_preproc.specs.Turning.{enters, IsOpened, IsTurned}
 use Rattle.cr_preproc.proofs.Openings.{enters_sub, wants_none, looked}
+use Rattle.cr_preproc.proofs.Falls.{empty_below, looked_falls}
 use Rattle.cr_preproc.proofs.turning.look_turn.Goals as goal
 
 pub returns-in-Needs : goal.returns-in-Needs
@@ -33,6 +34,7 @@ returns-in-Needs c = record {
         refl,
         refl,
       );
+  falls = tt;
 }
 
 pub returns-in_default : goal.returns-in_default
@@ -51,4 +53,7 @@ returns-in_default c = record {
       subst (λ (d : Doing). IsTurned w u files p q f f (doing.Looks c.args.paths c.args.site) d c.in_ok-turned.turned) (sym c.requires.reads)
       (looked w u files p q f (opens w (does_file w u f.levels) c.args.site paths) c.requires.working.file c.requires.working.does (doing.Looks c.args.paths c.args.site) (λ k. refl) c.in_ok-turned.turned
       (wants_none c.in_ok-turned.turned c.in_default.not-Needs) o);
+  falls =
+      looked_falls c.args.progress.now c.after_search.new.progress c.args.file.now (doing.Looks c.args.paths c.args.site) c.args.doing.now c.in_ok-turned.turned c.in_ok-turned.ensures.counts
+      (empty_below c.args.file.now c.args.doing.now 3 (omega arith) c.requires.working.does c.requires.reads);
 }

@@ -7,6 +7,7 @@ use Rattle.cr_preproc.specs.OpenFiles.{reading_of}
 use Rattle.cr_preproc.specs.Turning.{enters}
 use Rattle.cr_preproc.proofs.Leadings.{leads_from}
 use Rattle.cr_preproc.proofs.Openings.{good_names, file_opens, over_levels, over_reading, found_other, enters_none, enters_some, no_line}
+use Rattle.cr_preproc.proofs.Falls.{same_most, one_less}
 use Rattle.cr_preproc.proofs.turning.open.Goals as goal
 
 pub returns-in_default-clause-opened : goal.returns-in_default-clause-opened
@@ -54,3 +55,9 @@ returns-clause-opened c w u site files found =
       c.in_ok-file.ensures.open files found,
       no_line names files c.in_ok-file.file (ap (λ r. r.taken) begins),
     )
+
+pub returns-then-not-may_read-clause-counts : goal.returns-then-not-may_read-clause-counts
+returns-then-not-may_read-clause-counts c = same_most c.args.progress.now c.may_read.new.self (ap (λ x. x.reading) (c.may_read.ensures.none c.if-not-may_read.true).1)
+
+pub returns-clause-counts : goal.returns-clause-counts
+returns-clause-counts c = one_less c.args.progress.now c.may_read.new.self (c.may_read.ensures.read c.if-not-may_read.false)

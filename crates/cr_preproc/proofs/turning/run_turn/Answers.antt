@@ -1,4 +1,4 @@
-use Rattle.std.proofs.Common.{◌≡◌, ◌≤◌, [], sym, ◌∙◌, subst, refl, inl}
+use Rattle.std.proofs.Common.{◌≡◌, ◌≤◌, [], ap, sym, ◌∙◌, subst, refl, inl}
 use Rattle.cr_expand.specs.declared.machine.TheConstants.{LIMIT}
 use Rattle.cr_preproc.specs.declared.expansion.Use.TheVariants as use1
 use Rattle.cr_preproc.specs.declared.turning.Doing.TheVariants as doing
@@ -10,6 +10,7 @@ use Rattle.cr_preproc.specs.Tasks.{Nothing, Ends}
 use Rattle.cr_preproc.specs.Leading.{Leads}
 use Rattle.cr_preproc.specs.Turning.{doing_left}
 use Rattle.cr_preproc.proofs.Turns.{with_used, used_good, run_goes, run_gives, run_ends, run_fails, run_working}
+use Rattle.cr_preproc.proofs.Falls.{given_falls}
 use Rattle.cr_preproc.proofs.turning.run_turn.Goals as goal
 
 pub returns-in-Goes : goal.returns-in-Goes
@@ -23,6 +24,7 @@ returns-in-Goes c = record {
         run_goes c.defined_macros_are_known.ensures (world_of c.args.snapshot.now) c.args.unit.now c.args.snapshot.now p q c.args.file.now i.0 c.args.expansion c.step.new.self c.args.then c.requires.good c.requires.open c.requires.expanding i.4 i.1 i.6 n i.2,
         run_working c.args.snapshot.now p q (with_used q n) c.args.file.now i.0 c.step.new.self c.args.then n c.requires.open c.requires.line i.4 i.5 (i.6 ∙ c.requires.literal) (used_good q n c.in_ok-step.ensures.good limit) refl,
       );
+  falls = tt;
 }
 
 pub returns-in_ok-turned-in-Gives : goal.returns-in_ok-turned-in-Gives
@@ -31,6 +33,8 @@ returns-in_ok-turned-in-Gives c = record {
       let i : IsUsed c.args.progress.now c.step.new.progress c.args.expansion c.step.new.self (use1.Gives c.in-Gives.t) = subst (IsUsed c.args.progress.now c.step.new.progress c.args.expansion c.step.new.self) c.in-Gives.is c.in_ok-step.ensures.used in
       run_gives c.defined_macros_are_known.ensures (world_of c.args.snapshot.now) c.args.unit.now c.args.snapshot.now c.args.progress.now c.step.new.progress c.give.new.progress c.args.file.now c.args.expansion c.step.new.self c.args.then c.used-progress-in-Gives.result c.in-Gives.t
       c.requires.good c.requires.open c.requires.line c.requires.expanding c.requires.literal c.in_ok-step.ensures.good c.used-progress-in-Gives.ensures i c.in_ok-turned-in-Gives.turned c.in_ok-turned-in-Gives.ensures.given;
+  falls =
+      given_falls _ c.give.new.progress c.args.progress.now c.give.new.progress c.in-Gives.t c.args.file.now c.args.file.now (doing.Expands c.args.expansion c.args.then) (doing.Expands c.step.new.self c.args.then) c.in_ok-turned-in-Gives.turned c.in_ok-turned-in-Gives.ensures.given;
 }
 
 pub returns-in_ok-turned-in-Ends : goal.returns-in_ok-turned-in-Ends
@@ -39,6 +43,9 @@ returns-in_ok-turned-in-Ends c = record {
       let i : IsUsed c.args.progress.now c.step.new.progress c.args.expansion c.step.new.self use1.Ends = subst (IsUsed c.args.progress.now c.step.new.progress c.args.expansion c.step.new.self) c.in-Ends.is c.in_ok-step.ensures.used in
       c.in_ok-turned-in-Ends.ensures.turned c.args.progress.now (doing.Expands c.args.expansion c.args.then) c.requires.good
       (run_ends (world_of c.args.snapshot.now) c.args.unit.now c.args.snapshot.now c.args.progress.now c.step.new.progress c.args.file.now c.args.expansion c.step.new.self c.args.then c.used-progress-in-Ends.result c.used-progress-in-Ends.ensures i);
+  falls =
+      let i : IsUsed c.args.progress.now c.step.new.progress c.args.expansion c.step.new.self use1.Ends = subst (IsUsed c.args.progress.now c.step.new.progress c.args.expansion c.step.new.self) c.in-Ends.is c.in_ok-step.ensures.used in
+      c.in_ok-turned-in-Ends.ensures.falls c.args.progress.now c.args.expansion (sym (ap (λ x. x.reading) i.0));
 }
 
 pub returns-in-Fails : goal.returns-in-Fails
@@ -56,4 +63,5 @@ returns-in-Fails c = record {
             (run_fails w c.args.unit.now r k c.args.then p q (table_for p c.args.expansion) (state_of p) (ahead_in p c.args.expansion) (end_by c.in-Fails.fault) i.0 i.2.told),
         c.in_ok-step.ensures.good,
       );
+  falls = tt;
 }

@@ -3,6 +3,7 @@ use Rattle.cr_preproc.specs.OpenFiles.{IsOpen, bytes_of, bytes_at}
 use Rattle.cr_preproc.specs.Search.{world_of}
 use Rattle.cr_preproc.proofs.NextTurns.{as_read, next_turn, limit_turn, took_turn}
 use Rattle.cr_preproc.proofs.OpenLater.{open_reading}
+use Rattle.cr_preproc.proofs.Falls.{reads_some, run_falls}
 use Rattle.cr_preproc.proofs.turning.take.Goals as goal
 
 pub may_read-requires : goal.may_read-requires
@@ -37,6 +38,9 @@ returns-then-not-may_read c = record {
       (c.in_ok-put_text.ensures.reads files)
       (λ k. c.in_ok-doing.ensures.left (world_of files) u files k o)
       o c.in_ok-doing.ensures.does);
+  falls =
+      run_falls c.args.progress.now c.may_read.new.self c.args.file.now c.put_text.new.self c.args.doing.now c.in_ok-doing.field-0 (ap (λ x. x.reading) (c.if-not-may_read.ensures.none refl).1)
+      (c.in_ok-doing.ensures.falls c.put_text.new.self) (reads_some c.args.file.now c.args.doing.now c.requires.reads);
 }
 
 pub take-requires-clause-bytes : goal.take-requires-clause-bytes
@@ -63,4 +67,5 @@ returns c = record {
       took_turn (world_of files) u files p q c.take.new.names f c.take.new.self c.args.doing.now c.requires.reads c.defined_macros_are_known.ensures (as_read files p f c.args.doing.now c.requires.working)
       (c.if-not-may_read.ensures.read refl) c.may_read.ensures.good c.take.ensures.names (c.take.ensures.distinct c.may_read.ensures.good.distinct)
       (c.in_ok-take-in-Known.ensures.open files o at) c.requires.line c.requires.token (c.in_ok-take-in-Known.ensures.takes files o at);
+  falls = tt;
 }

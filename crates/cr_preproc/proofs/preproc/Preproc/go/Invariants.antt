@@ -1,5 +1,9 @@
+use Rattle.cr_preproc.specs.Falling.{turns_left}
 use Rattle.cr_preproc.specs.Preprocs.{IsSilent}
 use Rattle.cr_preproc.proofs.preproc.Preproc.go.Given as goal
 
-abbrev pub invariant-loop : goal.invariant-loop
-invariant-loop l = IsSilent l.snapshot l.initial.self l.self
+abbrev pub invariant-turns : goal.invariant-turns
+invariant-turns l = IsSilent l.snapshot l.initial.self l.self
+
+abbrev pub decreases-turns : goal.decreases-turns
+decreases-turns l = turns_left l.self
