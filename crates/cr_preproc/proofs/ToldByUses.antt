@@ -1,10 +1,8 @@
 -- What is told of expansion that stops.
 use Rattle.std.proofs.Common.{◌≡◌, ℕ, ◌+◌, ◌-◌, Bool, true, false, cond, List, [], ◌∷◌, ◌++◌, length, refl, sym, ap, ◌∙◌, arith, append_assoc}
 use Rattle.std.specs.Prelude.{nat_lt}
-use Rattle.cr_base.specs.declared.token.Place.{Place}
-use Rattle.cr_base.specs.declared.cause.Role.{Role}
 use Rattle.cr_base.specs.declared.cause.Role.TheVariants.{MacroName}
-use Rattle.cr_macros.specs.Tokens.{Text, Token, Event, Rule, Taken, Over, Answer, Gave, Stopped, Work, after, then_do, ◌>>=◌, pay, takes, both, with_name}
+use Rattle.cr_macros.specs.Tokens.{Token, Event, Rule, Taken, Over, Answer, Gave, Stopped, Work, after, then_do, ◌>>=◌, pay, takes, both, with_name}
 use Rattle.cr_macros.specs.Substitution.{body_items, made, subst}
 use Rattle.cr_macros.specs.Expansion.{Table, Use, Keep, Predefined, Object, Call, Wrong, expanded, put_in, expand}
 use Rattle.cr_macros.specs.Uses.{put_for}

@@ -8,16 +8,14 @@ use Rattle.cr_macros.specs.Tokens.{Text, tokens_of}
 use Rattle.cr_expand.specs.Expanders.{plain}
 use Rattle.cr_snapshot.specs.declared.known.KnownFile.{KnownFile}
 use Rattle.cr_preproc.specs.declared.expansion.Fault.{Fault}
-use Rattle.cr_preproc.specs.declared.preproc.Ending.TheVariants as ending
 use Rattle.cr_preproc.specs.declared.preproc.PreTurn.TheVariants as pre
 use Rattle.cr_preproc.specs.declared.preproc.Preproc.{Preproc}
-use Rattle.cr_preproc.specs.Tasks.{End, Needs, Event, State, Reply, Goes, Ends, Nothing, Done, behind}
-use Rattle.cr_preproc.specs.PreprocessingRun.{steps, final_tokens}
+use Rattle.cr_preproc.specs.Tasks.{Needs, Event, Reply, Goes, Ends, Nothing, Done, behind}
+use Rattle.cr_preproc.specs.PreprocessingRun.{final_tokens}
 use Rattle.cr_preproc.specs.Preprocessing.{preprocessed}
 use Rattle.cr_preproc.specs.Search.{world_of}
 use Rattle.cr_preproc.specs.Traces.{Trace, trace_of}
-use Rattle.cr_preproc.specs.Progressing.{state_of, kept, joined, traced, IsProgress}
-use Rattle.cr_preproc.specs.declared.progress.Progress.{Progress}
+use Rattle.cr_preproc.specs.Progressing.{state_of, joined, traced}
 use Rattle.cr_preproc.specs.Expanding.{end_by}
 use Rattle.cr_preproc.specs.Leading.{Leads}
 use Rattle.cr_preproc.specs.Preprocs.{left_of, left_by, IsFresh, IsPreStep, Run, Begins, Steps, AreMade, GoesByTheDefinition, EndsByTheDefinition}

@@ -24,7 +24,6 @@ use Rattle.cr_preproc.specs.Tasks.{Needs, Reply, Ends, Task, Nothing, ◌>>>◌}
 use Rattle.cr_preproc.specs.Search.{World, world_of}
 use Rattle.cr_preproc.specs.OpenFiles.{Reading, reads_file, reading_of, IsOpen}
 use Rattle.cr_preproc.specs.Progressing.{state_of, IsProgress}
-use Rattle.cr_preproc.specs.Expanding.{end_by}
 use Rattle.cr_preproc.specs.Leading.{Leads}
 use Rattle.cr_preproc.specs.Turning.{doing_left, IsWorking, IsDoing, IsTurned}
 use Rattle.cr_preproc.specs.Preprocs.{files_left, going_left, left_by, left_of, IsOuter, AreOpen, IsGoing, IsPreproc, IsSameUnit, IsUncounted, TurnLeads}

@@ -21,7 +21,6 @@ use Rattle.cr_preproc.specs.declared.preproc.Firsts.TheVariants as firsts
 use Rattle.cr_preproc.specs.declared.preproc.PreTurn.{PreTurn}
 use Rattle.cr_preproc.specs.declared.preproc.PreTurn.TheVariants as pre
 use Rattle.cr_preproc.specs.declared.preproc.Preproc.{Preproc}
-use Rattle.cr_preproc.specs.declared.progress.Progress.{Progress}
 use Rattle.cr_preproc.specs.declared.turning.Doing.TheVariants as doing
 use Rattle.cr_preproc.specs.declared.turning.Turned.{Turned}
 use Rattle.cr_preproc.specs.declared.turning.Turned.TheVariants as turned

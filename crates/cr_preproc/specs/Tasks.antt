@@ -106,8 +106,8 @@ end_of MacrosOver = Over Macros
 
 -- a role is told only where something is told behind it
 abbrev pub role_before : Telling → List Telling → List Telling
-role_before role [] = []
-role_before role (e ∷ told) = role ∷ e ∷ told
+role_before noted [] = []
+role_before noted (e ∷ told) = noted ∷ e ∷ told
 
 -- What is told of expansion that stops: what was noted up to its last use of a rule. A use tells its roles and then its rule, so
 -- of a use that fails nothing is told.

@@ -20,7 +20,7 @@ use Rattle.cr_preproc.specs.declared.turning.Doing.TheVariants as doing
 use Rattle.cr_preproc.specs.declared.turning.Turned.{Turned}
 use Rattle.cr_preproc.specs.declared.turning.Turned.TheVariants as turned
 use Rattle.cr_preproc.specs.declared.expansion.Fault.{Fault}
-use Rattle.cr_preproc.specs.Tasks.{State, End, Ill, Over, Tokens, Needs, Event, Reply, Goes, Ends, Task, Nothing, Done, go_on, ◌>>>◌, ends, tell, marks, in_directive, events_of}
+use Rattle.cr_preproc.specs.Tasks.{State, End, Ill, Over, Tokens, Needs, Reply, Goes, Ends, Task, Nothing, Done, go_on, ◌>>>◌, ends, tell, marks, in_directive, events_of}
 use Rattle.cr_preproc.specs.Lines.{Line, Plain, Conditional, Directive, Empty, Wordless, line_of}
 use Rattle.cr_preproc.specs.Search.{World}
 use Rattle.cr_preproc.specs.Runs.{runs, expands, earlier, after_run, is_open_call}

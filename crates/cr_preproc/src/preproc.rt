@@ -115,6 +115,10 @@ impl Preproc {
     /// before the first at which one is there, and changes nothing; `Done` that all tokens are given; `Ill`
     /// that the unit ends by that cause at that place, or over a limit, whose place is free. After `Done`,
     /// `Ill` and want of memory it answers the same again.
+    ///
+    /// What was left of the unit's preprocessing is the events that a step kept, and then what is left now,
+    /// also where the unit ends. Of a use of a rule that fails nothing is told. Where a rule gave a token for
+    /// which there is no room, `Ill` answers for that use too.
     pub fn step(&mut self, snapshot: &Snapshot) -> Result<PreTurn, OutOfMemory>
         requires good { IsPreproc snapshot.now self.old }
         ensures step { IfOk result (λ turn. IsPreStep snapshot.now self.old self.new turn) }
@@ -336,7 +340,8 @@ impl Preproc {
 /// The law that a unit is preprocessed as it is defined (C11 5.1.1.2, phase 4; 6.10), where the same files
 /// are known at each step: after n steps what has happened is the unit's preprocessing up to its nth step,
 /// and the tokens and the trace are those of what has happened; where it has come to its end, to a fault or
-/// to files that are wanted, so does the definition. It does no work.
+/// to files that are wanted, so does the definition, after as many steps and with the same tokens and trace.
+/// But where a rule gave a token for which there is no room, its use is one step more. It does no work.
 pub fn steps_preprocess_the_unit()
     ensures goes { GoesByTheDefinition }
     ensures ends { EndsByTheDefinition }
