@@ -19,7 +19,7 @@ use crate::open_file::OpenFile;
 use crate::progress::Progress;
 use crate::search::first_file;
 use crate::trace::Trace;
-use crate::turning::{Doing, Turned, after_search, turn};
+use crate::turning::{Context, Doing, Turned, after_search, turn};
 use crate::words::words_path;
 use cr_base::{IllCause, NameTable, OutOfMemory, PathNo, PathText, Place, PpTok, Unit};
 use cr_snapshot::Snapshot;
@@ -169,14 +169,12 @@ impl Preproc {
                 Ok(step)
             }
             Some(file) => {
-                let turned = turn(
-                    self.alloc,
-                    &self.unit,
+                let context = Context {
+                    alloc: self.alloc,
+                    unit: &self.unit,
                     snapshot,
-                    &mut self.progress,
-                    file,
-                    &mut self.doing,
-                )?;
+                };
+                let turned = turn(context, &mut self.progress, file, &mut self.doing)?;
                 let step = self.follow(turned)?;
                 Ok(step)
             }

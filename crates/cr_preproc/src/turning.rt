@@ -90,6 +90,14 @@ pub enum Turned {
     Ends(Fault),
 }
 
+// What each turn of a unit is made with.
+#[derive(Clone, Copy)]
+pub struct Context<'a> {
+    pub alloc: Global,
+    pub unit: &'a Unit,
+    pub snapshot: &'a Snapshot,
+}
+
 fn lex_fault(fault: LexFault) -> Fault
     ensures { (file : ℕ) (s : lexing.Fault) → fault ≡ fault_in (record { 0 = file }) s → lines.fault_of file (Some s) ≡ Some (end_by result) }
 {
@@ -359,25 +367,27 @@ pub fn after_search(
 
 // The file of an include is looked for.
 fn look(
-    alloc: Global,
-    unit: &Unit,
-    snapshot: &Snapshot,
+    context: Context,
     file: &OpenFile,
     header: &Header,
     site: Place,
 ) -> Result<Doing, OutOfMemory>
-    requires { file.now.number.0 < length snapshot.now }
-    ensures { (names : ListOf Text) → IsOpen names snapshot.now file.now → IfOk result (λ d. LooksAt (candidates unit.now file.now.path header.now.angled header.now.name.items) site d) }
+    requires { file.now.number.0 < length context.snapshot.now }
+    ensures { (names : ListOf Text) → IsOpen names context.entry.snapshot.now file.now → IfOk result (λ d. LooksAt (candidates context.entry.unit.now file.now.path header.now.angled header.now.name.items) site d) }
 {
-    let paths = snapshot.candidates(alloc, unit, file.number, header.angled, &header.name)?;
+    let paths = context.snapshot.candidates(
+        context.alloc,
+        context.unit,
+        file.number,
+        header.angled,
+        &header.name,
+    )?;
     Ok(Doing::Looks(paths, site))
 }
 
 // What comes of a directive that isn't conditional.
 fn follow_directed(
-    alloc: Global,
-    unit: &Unit,
-    snapshot: &Snapshot,
+    context: Context,
     progress: &Progress,
     file: &OpenFile,
     hash: Place,
@@ -385,9 +395,9 @@ fn follow_directed(
     directed: Directed,
 ) -> Result<Result<Doing, Fault>, OutOfMemory>
     requires good { IsProgress progress.now }
-    requires open { IsOpen progress.now.names snapshot.now file.now }
+    requires open { IsOpen progress.now.names context.snapshot.now file.now }
     requires rest { AreNamed progress.now.names rest.now }
-    ensures behind { (old : TheProgress) (m : Task Nothing) → progress.now.names ≡ old.names → IsDirected (world_of snapshot.now) unit.now (does_file (world_of snapshot.now) unit.now file.now.levels) file.now.path hash (tokens_of progress.now.names rest.now) old progress.now m directed → IfOk result (λ next. IsBehind (world_of snapshot.now) unit.now snapshot.now old progress.now file.now (λ k. directed_left (world_of snapshot.now) unit.now old (reading_of old.names snapshot.now file.now) k m) next) }
+    ensures behind { (old : TheProgress) (m : Task Nothing) → progress.now.names ≡ old.names → IsDirected (world_of context.entry.snapshot.now) context.entry.unit.now (does_file (world_of context.entry.snapshot.now) context.entry.unit.now file.now.levels) file.now.path hash (tokens_of progress.now.names rest.now) old progress.now m directed → IfOk result (λ next. IsBehind (world_of context.entry.snapshot.now) context.entry.unit.now context.entry.snapshot.now old progress.now file.now (λ k. directed_left (world_of context.entry.snapshot.now) context.entry.unit.now old (reading_of old.names context.entry.snapshot.now file.now) k m) next) }
     ensures falls { IfOk result (λ next. IsBelow 5 next) }
     ensures unexpanded { IsUnexpanded directed → IfOk result (λ next. IsBelow 4 next) }
 {
@@ -395,11 +405,11 @@ fn follow_directed(
         Directed::Goes => Ok(Ok(Doing::Reads)),
         Directed::Fails(fault) => Ok(Err(fault)),
         Directed::Expands => {
-            let expansion = Expansion::new(alloc, progress, file.literal, hash, rest)?;
-            Ok(Ok(Doing::Includes(expansion, Vec::new(alloc), hash)))
+            let expansion = Expansion::new(context.alloc, progress, file.literal, hash, rest)?;
+            Ok(Ok(Doing::Includes(expansion, Vec::new(context.alloc), hash)))
         }
         Directed::Looks(header, site) => {
-            let doing = look(alloc, unit, snapshot, file, &header, site)?;
+            let doing = look(context, file, &header, site)?;
             Ok(Ok(doing))
         }
     }
@@ -407,27 +417,31 @@ fn follow_directed(
 
 // Carries out the directive that is the present line, behind its run.
 fn directive(
-    alloc: Global,
-    unit: &Unit,
-    snapshot: &Snapshot,
+    context: Context,
     progress: &mut Progress,
     file: &OpenFile,
 ) -> Result<Result<Doing, Fault>, OutOfMemory>
     requires good { IsProgress progress.old }
     requires room { length progress.old.names < 2 ^ 31 }
-    requires open { IsOpen progress.old.names snapshot.now file.now }
+    requires open { IsOpen progress.old.names context.snapshot.now file.now }
     requires line { length file.now.line.items ≤ 33554432 }
-    ensures behind { IfOk result (λ next. IsBehind (world_of snapshot.now) unit.now snapshot.now progress.old progress.new file.now (λ k. (carried (world_of snapshot.now) unit.now (reading_of progress.old.names snapshot.now file.now) (lines.line_of (tokens_of progress.old.names file.now.line.items)) >>> λ n. k) (state_of progress.old)) next) }
+    ensures behind { IfOk result (λ next. IsBehind (world_of context.entry.snapshot.now) context.entry.unit.now context.entry.snapshot.now progress.old progress.new file.now (λ k. (carried (world_of context.entry.snapshot.now) context.entry.unit.now (reading_of progress.old.names context.entry.snapshot.now file.now) (lines.line_of (tokens_of progress.old.names file.now.line.items)) >>> λ n. k) (state_of progress.old)) next) }
     ensures names { progress.new.names ≡ progress.old.names }
     ensures reading { OnOk result (progress.new.reading ≡ progress.old.reading) }
     ensures falls { IfOk result (λ next. IsBelow 5 next) }
 {
     match line_of(&progress.names, &file.line) {
         Line::Directive(hash, word, rest) => {
-            let directed = direct(alloc, progress, &file.path, &file.line, hash, word, rest)?;
-            let next = follow_directed(
-                alloc, unit, snapshot, progress, file, hash, rest, directed,
+            let directed = direct(
+                context.alloc,
+                progress,
+                &file.path,
+                &file.line,
+                hash,
+                word,
+                rest,
             )?;
+            let next = follow_directed(context, progress, file, hash, rest, directed)?;
             Ok(next)
         }
         Line::Wordless(hash) => Ok(Err(Fault {
@@ -456,9 +470,7 @@ fn behind_run(file: &mut OpenFile, doing: &mut Doing, next: Result<Doing, Fault>
 }
 
 fn after_run(
-    alloc: Global,
-    unit: &Unit,
-    snapshot: &Snapshot,
+    context: Context,
     progress: &mut Progress,
     file: &mut OpenFile,
     doing: &mut Doing,
@@ -466,16 +478,16 @@ fn after_run(
 ) -> Result<Turned, OutOfMemory>
     requires good { IsProgress progress.old }
     requires room { length progress.old.names < 2 ^ 31 }
-    requires open { IsOpen progress.old.names snapshot.now file.old }
+    requires open { IsOpen progress.old.names context.snapshot.now file.old }
     requires line { length file.old.line.items + progress.old.reading ≤ 33554432 }
-    ensures turned { (p : TheProgress) (d : TheDoing) → IsProgress p → ((k : Task Nothing) → Leads 0 p progress.old (doing_left (world_of snapshot.now) unit.now p (reading_of p.names snapshot.now file.old) k d) (then_left (world_of snapshot.now) unit.now (reading_of progress.old.names snapshot.now file.old) k then (Goes Done (state_of progress.old) []))) → IfOk result (λ t. IsTurned (world_of snapshot.now) unit.now snapshot.now p progress.new file.old file.new d doing.new t) }
+    ensures turned { (p : TheProgress) (d : TheDoing) → IsProgress p → ((k : Task Nothing) → Leads 0 p progress.old (doing_left (world_of context.entry.snapshot.now) context.entry.unit.now p (reading_of p.names context.entry.snapshot.now file.old) k d) (then_left (world_of context.entry.snapshot.now) context.entry.unit.now (reading_of progress.old.names context.entry.snapshot.now file.old) k then (Goes Done (state_of progress.old) []))) → IfOk result (λ t. IsTurned (world_of context.entry.snapshot.now) context.entry.unit.now context.entry.snapshot.now p progress.new file.old file.new d doing.new t) }
     ensures falls { (p : TheProgress) (e : TheExpansion) → p.reading ≡ progress.old.reading → IfOk result (λ t. Falls p progress.new file.old file.new (Doing.Expands e then) doing.new t) }
 {
     match then {
         Then::Fails(fault) => Ok(Turned::Ends(fault)),
         Then::Close => Ok(Turned::Closes),
         Then::Line => {
-            let next = directive(alloc, unit, snapshot, progress, file)?;
+            let next = directive(context, progress, file)?;
             Ok(behind_run(file, doing, next))
         }
     }
@@ -543,65 +555,72 @@ fn at(hash: Place, fault: Fault) -> Fault
 
 // What comes of the end of the list of an include.
 fn after_include(
-    alloc: Global,
-    unit: &Unit,
-    snapshot: &Snapshot,
+    context: Context,
     progress: &mut Progress,
     file: &OpenFile,
     given: &[PpTok],
     hash: Place,
 ) -> Result<Result<Doing, Fault>, OutOfMemory>
     requires good { IsProgress progress.old }
-    requires open { IsOpen progress.old.names snapshot.now file.now }
-    ensures behind { IfOk result (λ next. IsBehind (world_of snapshot.now) unit.now snapshot.now progress.old progress.new file.now (λ k. directed_left (world_of snapshot.now) unit.now progress.old (reading_of progress.old.names snapshot.now file.now) k (includes_given (world_of snapshot.now) unit.now (does_file (world_of snapshot.now) unit.now file.now.levels) file.now.path hash (tokens_of progress.old.names given.now))) next) }
+    requires open { IsOpen progress.old.names context.snapshot.now file.now }
+    ensures behind { IfOk result (λ next. IsBehind (world_of context.entry.snapshot.now) context.entry.unit.now context.entry.snapshot.now progress.old progress.new file.now (λ k. directed_left (world_of context.entry.snapshot.now) context.entry.unit.now progress.old (reading_of progress.old.names context.entry.snapshot.now file.now) k (includes_given (world_of context.entry.snapshot.now) context.entry.unit.now (does_file (world_of context.entry.snapshot.now) context.entry.unit.now file.now.levels) file.now.path hash (tokens_of progress.old.names given.now))) next) }
     ensures names { progress.new.names ≡ progress.old.names }
     ensures reading { OnOk result (progress.new.reading ≡ progress.old.reading) }
     ensures falls { IfOk result (λ next. IsBelow 4 next) }
 {
-    let directed = include_given(alloc, progress, hash, given)?;
-    let next = follow_directed(alloc, unit, snapshot, progress, file, hash, &[], directed)?;
+    let directed = include_given(context.alloc, progress, hash, given)?;
+    let next = follow_directed(context, progress, file, hash, &[], directed)?;
     Ok(next)
 }
 
 /// What is done next in an open file.
 pub fn turn(
-    alloc: Global,
-    unit: &Unit,
-    snapshot: &Snapshot,
+    context: Context,
     progress: &mut Progress,
     file: &mut OpenFile,
     doing: &mut Doing,
 ) -> Result<Turned, OutOfMemory>
-    requires working { IsWorking snapshot.now progress.old file.old doing.old }
+    requires working { IsWorking context.snapshot.now progress.old file.old doing.old }
     requires room { length progress.old.names < 2 ^ 31 }
-    ensures turned { IfOk result (λ t. IsTurned (world_of snapshot.now) unit.now snapshot.now progress.old progress.new file.old file.new doing.old doing.new t) }
+    ensures turned { IfOk result (λ t. IsTurned (world_of context.entry.snapshot.now) context.entry.unit.now context.entry.snapshot.now progress.old progress.new file.old file.new doing.old doing.new t) }
     ensures falls { IfOk result (λ t. Falls progress.old progress.new file.old file.new doing.old doing.new t) }
 {
     match replace(doing, Doing::Reads) {
         Doing::Reads => {
-            let turned = read(alloc, snapshot, progress, file, doing)?;
+            let turned = read(context.alloc, context.snapshot, progress, file, doing)?;
             Ok(turned)
         }
         Doing::Expands(expansion, then) => {
-            let turned = run_turn(
-                alloc, unit, snapshot, progress, file, doing, expansion, then,
-            )?;
+            let turned = run_turn(context, progress, file, doing, expansion, then)?;
             Ok(turned)
         }
         Doing::Decides(expansion, given, decision, hash) => {
             let turned = decide_turn(
-                alloc, progress, file, doing, expansion, given, decision, hash,
+                context.alloc,
+                progress,
+                file,
+                doing,
+                expansion,
+                given,
+                decision,
+                hash,
             )?;
             Ok(turned)
         }
         Doing::Includes(expansion, given, hash) => {
-            let turned = include_turn(
-                alloc, unit, snapshot, progress, file, doing, expansion, given, hash,
-            )?;
+            let turned = include_turn(context, progress, file, doing, expansion, given, hash)?;
             Ok(turned)
         }
         Doing::Looks(paths, site) => {
-            let turned = look_turn(alloc, snapshot, progress, file, doing, paths, site)?;
+            let turned = look_turn(
+                context.alloc,
+                context.snapshot,
+                progress,
+                file,
+                doing,
+                paths,
+                site,
+            )?;
             Ok(turned)
         }
     }
@@ -635,9 +654,7 @@ fn look_turn(
 }
 
 fn run_turn(
-    alloc: Global,
-    unit: &Unit,
-    snapshot: &Snapshot,
+    context: Context,
     progress: &mut Progress,
     file: &mut OpenFile,
     doing: &mut Doing,
@@ -646,11 +663,11 @@ fn run_turn(
 ) -> Result<Turned, OutOfMemory>
     requires good { IsProgress progress.old }
     requires room { length progress.old.names < 2 ^ 31 }
-    requires open { IsOpen progress.old.names snapshot.now file.old }
+    requires open { IsOpen progress.old.names context.snapshot.now file.old }
     requires line { length file.old.line.items + progress.old.reading ≤ 33554432 }
     requires expanding { IsExpanding progress.old expansion }
     requires literal { expansion.expander.machine.file ≡ file.old.literal }
-    ensures turned { IfOk result (λ t. IsTurned (world_of snapshot.now) unit.now snapshot.now progress.old progress.new file.old file.new (Doing.Expands expansion then) doing.new t) }
+    ensures turned { IfOk result (λ t. IsTurned (world_of context.entry.snapshot.now) context.entry.unit.now context.entry.snapshot.now progress.old progress.new file.old file.new (Doing.Expands expansion then) doing.new t) }
     ensures falls { IfOk result (λ t. Falls progress.old progress.new file.old file.new (Doing.Expands expansion then) doing.new t) }
 {
     defined_macros_are_known();
@@ -668,7 +685,7 @@ fn run_turn(
         }
         Use::Ends => {
             progress.used = expansion.used();
-            let turned = after_run(alloc, unit, snapshot, progress, file, doing, then)?;
+            let turned = after_run(context, progress, file, doing, then)?;
             Ok(turned)
         }
         Use::Fails(fault) => Ok(Turned::Ends(earlier(then, fault))),
@@ -719,9 +736,7 @@ fn decide_turn(
 }
 
 fn include_turn(
-    alloc: Global,
-    unit: &Unit,
-    snapshot: &Snapshot,
+    context: Context,
     progress: &mut Progress,
     file: &mut OpenFile,
     doing: &mut Doing,
@@ -731,12 +746,12 @@ fn include_turn(
 ) -> Result<Turned, OutOfMemory>
     requires good { IsProgress progress.old }
     requires room { length progress.old.names < 2 ^ 31 }
-    requires open { IsOpen progress.old.names snapshot.now file.old }
+    requires open { IsOpen progress.old.names context.snapshot.now file.old }
     requires line { length file.old.line.items + progress.old.reading ≤ 33554432 }
     requires expanding { IsExpanding progress.old expansion }
     requires literal { expansion.expander.machine.file ≡ file.old.literal }
     requires given { AreNamed progress.old.names given.items }
-    ensures turned { IfOk result (λ t. IsTurned (world_of snapshot.now) unit.now snapshot.now progress.old progress.new file.old file.new (Doing.Includes expansion given hash) doing.new t) }
+    ensures turned { IfOk result (λ t. IsTurned (world_of context.entry.snapshot.now) context.entry.unit.now context.entry.snapshot.now progress.old progress.new file.old file.new (Doing.Includes expansion given hash) doing.new t) }
     ensures falls { IfOk result (λ t. Falls progress.old progress.new file.old file.new (Doing.Includes expansion given hash) doing.new t) }
 {
     defined_macros_are_known();
@@ -752,7 +767,7 @@ fn include_turn(
         }
         Use::Ends => {
             progress.used = expansion.used();
-            let next = after_include(alloc, unit, snapshot, progress, file, &given, hash)?;
+            let next = after_include(context, progress, file, &given, hash)?;
             Ok(behind_run(file, doing, next))
         }
         Use::Fails(fault) => Ok(Turned::Ends(at(hash, fault))),

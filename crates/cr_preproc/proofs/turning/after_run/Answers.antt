@@ -21,9 +21,9 @@ use Rattle.cr_preproc.proofs.turning.after_run.Goals as goal
 pub returns-in-Fails : goal.returns-in-Fails
 returns-in-Fails c = record {
   turned = λ p d good h.
-      let w = world_of c.args.snapshot.now in
-      let u = c.args.unit.now in
-      let files = c.args.snapshot.now in
+      let w = world_of c.args.context.snapshot.now in
+      let u = c.args.context.unit.now in
+      let files = c.args.context.snapshot.now in
       let q = c.args.progress.now in
       let before = λ (k : Task Nothing). doing_left w u p (reading_of p.names files c.args.file.now) k d in (
         0,
@@ -37,9 +37,9 @@ returns-in-Fails c = record {
 pub returns-in-Close : goal.returns-in-Close
 returns-in-Close c = record {
   turned = λ p d good h.
-      let w = world_of c.args.snapshot.now in
-      let u = c.args.unit.now in
-      let files = c.args.snapshot.now in
+      let w = world_of c.args.context.snapshot.now in
+      let u = c.args.context.unit.now in
+      let files = c.args.context.snapshot.now in
       let q = c.args.progress.now in
       let before = λ (k : Task Nothing). doing_left w u p (reading_of p.names files c.args.file.now) k d in (
         λ k.
@@ -53,9 +53,9 @@ returns-in-Close c = record {
 pub returns-in_ok-next-in-Line : goal.returns-in_ok-next-in-Line
 returns-in_ok-next-in-Line c = record {
   turned = λ p d good h.
-      let w = world_of c.args.snapshot.now in
-      let u = c.args.unit.now in
-      let files = c.args.snapshot.now in
+      let w = world_of c.args.context.snapshot.now in
+      let u = c.args.context.unit.now in
+      let files = c.args.context.snapshot.now in
       let q = c.args.progress.now in
       let f = c.args.file.now in
       let v = c.directive.new.progress in

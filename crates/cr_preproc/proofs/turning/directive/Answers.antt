@@ -20,8 +20,8 @@ use Rattle.cr_preproc.proofs.turning.directive.Goals as goal
 
 pub returns-in_ok-next-in-Directive-clause-behind : goal.returns-in_ok-next-in-Directive-clause-behind
 returns-in_ok-next-in-Directive-clause-behind c =
-    let w = world_of c.args.snapshot.now in
-    let u = c.args.unit.now in
+    let w = world_of c.args.context.snapshot.now in
+    let u = c.args.context.unit.now in
     let p = c.args.progress.now in
     let q = c.direct.new.progress in
     let f = c.args.file.now in
@@ -31,27 +31,27 @@ returns-in_ok-next-in-Directive-clause-behind c =
     let m : Task Nothing = tell (marks role.Directive t) >>> λ n. spec.directive w u (does_file w u f.levels) f.path hash t.text ts in
     let now : lines.line_of (tokens_of p.names f.line.items) ≡ Directive hash t ts = sym (c.in-Directive.ensures.seen ∙ ap (λ l. lines.line_of (tokens_of p.names l)) c.deref.ensures.value) in
     let led = subst (λ names. IsDirected w u (does_file w u f.levels) f.path hash (tokens_of names c.in-Directive.rest.now) p q m c.in_ok-directed-in-Directive.directed) (sym c.direct.ensures.names) (c.in_ok-directed-in-Directive.ensures.directed w u (does_file w u f.levels)) in
-    directive_behind w u c.args.snapshot.now p q f (lines.line_of (tokens_of p.names f.line.items)) hash t ts c.in_ok-next-in-Directive.next now (c.in_ok-next-in-Directive.ensures.behind p m c.direct.ensures.names led)
+    directive_behind w u c.args.context.snapshot.now p q f (lines.line_of (tokens_of p.names f.line.items)) hash t ts c.in_ok-next-in-Directive.next now (c.in_ok-next-in-Directive.ensures.behind p m c.direct.ensures.names led)
 
 pub returns-in-Plain-clause-behind : goal.returns-in-Plain-clause-behind
 returns-in-Plain-clause-behind c =
     let p = c.args.progress.now in
     let f = c.args.file.now in
-    plain_behind (world_of c.args.snapshot.now) c.args.unit.now c.args.snapshot.now p p f (lines.line_of (tokens_of p.names f.line.items))
+    plain_behind (world_of c.args.context.snapshot.now) c.args.context.unit.now c.args.context.snapshot.now p p f (lines.line_of (tokens_of p.names f.line.items))
     (sym (c.in-Plain.ensures.seen ∙ ap (λ l. lines.line_of (tokens_of p.names l)) c.deref.ensures.value)) c.requires.good
 
 pub returns-in-Empty-clause-behind : goal.returns-in-Empty-clause-behind
 returns-in-Empty-clause-behind c =
     let p = c.args.progress.now in
     let f = c.args.file.now in
-    empty_behind (world_of c.args.snapshot.now) c.args.unit.now c.args.snapshot.now p p f (lines.line_of (tokens_of p.names f.line.items))
+    empty_behind (world_of c.args.context.snapshot.now) c.args.context.unit.now c.args.context.snapshot.now p p f (lines.line_of (tokens_of p.names f.line.items))
     (sym (c.in-Empty.ensures.seen ∙ ap (λ l. lines.line_of (tokens_of p.names l)) c.deref.ensures.value)) c.requires.good
 
 pub returns-in-Conditional-clause-behind : goal.returns-in-Conditional-clause-behind
 returns-in-Conditional-clause-behind c =
     let p = c.args.progress.now in
     let f = c.args.file.now in
-    conditional_behind (world_of c.args.snapshot.now) c.args.unit.now c.args.snapshot.now p p f (lines.line_of (tokens_of p.names f.line.items)) _ _ _ _
+    conditional_behind (world_of c.args.context.snapshot.now) c.args.context.unit.now c.args.context.snapshot.now p p f (lines.line_of (tokens_of p.names f.line.items)) _ _ _ _
     (sym (c.in-Conditional.ensures.seen ∙ ap (λ l. lines.line_of (tokens_of p.names l)) c.deref.ensures.value)) c.requires.good
 
 pub returns-in-Plain-clause-falls : goal.returns-in-Plain-clause-falls

@@ -9,7 +9,7 @@ use Rattle.cr_preproc.proofs.turning.follow_directed.Goals as goal
 pub returns-in-Goes : goal.returns-in-Goes
 returns-in-Goes c = record {
   behind = λ old m same h.
-      follow_goes (world_of c.args.snapshot.now) c.args.unit.now c.args.snapshot.now old c.args.progress.now c.args.file.now c.args.hash (tokens_of c.args.progress.now.names c.args.rest.now) m same c.requires.good c.args.directed c.in-Goes.is h;
+      follow_goes (world_of c.args.context.snapshot.now) c.args.context.unit.now c.args.context.snapshot.now old c.args.progress.now c.args.file.now c.args.hash (tokens_of c.args.progress.now.names c.args.rest.now) m same c.requires.good c.args.directed c.in-Goes.is h;
   falls = below_reads 5 (omega arith);
   unexpanded = λ h. below_reads 4 (omega arith);
 }
@@ -17,7 +17,7 @@ returns-in-Goes c = record {
 pub returns-in-Fails : goal.returns-in-Fails
 returns-in-Fails c = record {
   behind = λ old m same h.
-      follow_fails (world_of c.args.snapshot.now) c.args.unit.now c.args.snapshot.now old c.args.progress.now c.args.file.now c.args.hash (tokens_of c.args.progress.now.names c.args.rest.now) m same c.requires.good c.args.directed c.in-Fails.fault c.in-Fails.is h;
+      follow_fails (world_of c.args.context.snapshot.now) c.args.context.unit.now c.args.context.snapshot.now old c.args.progress.now c.args.file.now c.args.hash (tokens_of c.args.progress.now.names c.args.rest.now) m same c.requires.good c.args.directed c.in-Fails.fault c.in-Fails.is h;
   falls = tt;
   unexpanded = λ h. tt;
 }
@@ -25,7 +25,7 @@ returns-in-Fails c = record {
 pub returns-in_ok-expansion-in-Expands : goal.returns-in_ok-expansion-in-Expands
 returns-in_ok-expansion-in-Expands c = record {
   behind = λ old m same h.
-      follow_expands (world_of c.args.snapshot.now) c.args.unit.now c.args.snapshot.now old c.args.progress.now c.args.file.now c.args.hash (tokens_of c.args.progress.now.names c.args.rest.now) m same c.requires.good c.args.directed
+      follow_expands (world_of c.args.context.snapshot.now) c.args.context.unit.now c.args.context.snapshot.now old c.args.progress.now c.args.file.now c.args.hash (tokens_of c.args.progress.now.names c.args.rest.now) m same c.requires.good c.args.directed
       c.in_ok-expansion-in-Expands.expansion c.new-in-Expands.result c.in-Expands.is c.in_ok-expansion-in-Expands.ensures.expanding c.in_ok-expansion-in-Expands.ensures.literal c.requires.open.literal_text c.in_ok-expansion-in-Expands.ensures.still c.new-in-Expands.ensures.items h;
   falls = λ g none. let h : 4 < 5 = omega arith in h;
   unexpanded = λ h. absurd (subst IsUnexpanded c.in-Expands.is h);
@@ -34,7 +34,7 @@ returns-in_ok-expansion-in-Expands c = record {
 pub returns-in_ok-doing-in-Looks : goal.returns-in_ok-doing-in-Looks
 returns-in_ok-doing-in-Looks c = record {
   behind = λ old m same h.
-      follow_looks (world_of c.args.snapshot.now) c.args.unit.now c.args.snapshot.now old c.args.progress.now c.args.file.now c.args.hash (tokens_of c.args.progress.now.names c.args.rest.now) m same c.requires.good c.args.directed
+      follow_looks (world_of c.args.context.snapshot.now) c.args.context.unit.now c.args.context.snapshot.now old c.args.progress.now c.args.file.now c.args.hash (tokens_of c.args.progress.now.names c.args.rest.now) m same c.requires.good c.args.directed
       c.in-Looks.header c.in-Looks.site c.in_ok-doing-in-Looks.doing c.in-Looks.is (c.in_ok-doing-in-Looks.ensures c.args.progress.now.names c.requires.open) h;
   falls = below_looks _ _ c.in_ok-doing-in-Looks.doing 5 (omega arith) (c.in_ok-doing-in-Looks.ensures c.args.progress.now.names c.requires.open);
   unexpanded = λ h. below_looks _ _ c.in_ok-doing-in-Looks.doing 4 (omega arith) (c.in_ok-doing-in-Looks.ensures c.args.progress.now.names c.requires.open);

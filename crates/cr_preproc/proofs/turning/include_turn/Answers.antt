@@ -23,8 +23,8 @@ returns-in-Goes c = record {
       let i : IsUsed c.args.progress.now c.step.new.progress c.args.expansion c.step.new.self use1.Goes = subst (IsUsed c.args.progress.now c.step.new.progress c.args.expansion c.step.new.self) c.in-Goes.is c.in_ok-step.ensures.used in
       let p = c.args.progress.now in
       let q = c.step.new.progress in (
-        include_goes c.defined_macros_are_known.ensures (world_of c.args.snapshot.now) c.args.unit.now c.args.snapshot.now p q c.args.file.now i.0 c.args.expansion c.step.new.self c.args.hash c.args.given.items c.requires.good c.requires.open c.requires.given i.4 i.1 i.3,
-        noted_working c.args.snapshot.now p q c.args.file.now i.0 (doing.Includes c.step.new.self c.args.given c.args.hash) c.requires.open c.requires.line i.4 c.in_ok-step.ensures.good
+        include_goes c.defined_macros_are_known.ensures (world_of c.args.context.snapshot.now) c.args.context.unit.now c.args.context.snapshot.now p q c.args.file.now i.0 c.args.expansion c.step.new.self c.args.hash c.args.given.items c.requires.good c.requires.open c.requires.given i.4 i.1 i.3,
+        noted_working c.args.context.snapshot.now p q c.args.file.now i.0 (doing.Includes c.step.new.self c.args.given c.args.hash) c.requires.open c.requires.line i.4 c.in_ok-step.ensures.good
             (i.5, i.6 ∙ c.requires.literal, all_named_later p.names q.names c.args.given.items i.4.told.names c.requires.given),
       );
   falls = tt;
@@ -34,9 +34,9 @@ pub returns-in_ok-push-in-Gives : goal.returns-in_ok-push-in-Gives
 returns-in_ok-push-in-Gives c = record {
   turned =
       let i : IsUsed c.args.progress.now c.step.new.progress c.args.expansion c.step.new.self (use1.Gives c.in-Gives.t) = subst (IsUsed c.args.progress.now c.step.new.progress c.args.expansion c.step.new.self) c.in-Gives.is c.in_ok-step.ensures.used in
-      let w = world_of c.args.snapshot.now in
-      let u = c.args.unit.now in
-      let files = c.args.snapshot.now in
+      let w = world_of c.args.context.snapshot.now in
+      let u = c.args.context.unit.now in
+      let files = c.args.context.snapshot.now in
       let p = c.args.progress.now in
       let q = c.step.new.progress in (
         λ k.
@@ -52,14 +52,14 @@ pub returns-in-Fails : goal.returns-in-Fails
 returns-in-Fails c = record {
   turned =
       let i : IsUsed c.args.progress.now c.step.new.progress c.args.expansion c.step.new.self (use1.Fails c.in-Fails.fault) = subst (IsUsed c.args.progress.now c.step.new.progress c.args.expansion c.step.new.self) c.in-Fails.is c.in_ok-step.ensures.used in
-      let w = world_of c.args.snapshot.now in
+      let w = world_of c.args.context.snapshot.now in
       let p = c.args.progress.now in
       let q = c.step.new.progress in (
         0,
         inl refl,
         λ k.
-            subst (λ end. Leads {A = Nothing} 0 p q (include_left w c.args.unit.now p (reading_of p.names c.args.snapshot.now c.args.file.now) k c.args.expansion c.args.given.items c.args.hash) (Ends end [])) (sym c.at.ensures)
-            (include_fails w c.args.unit.now c.args.snapshot.now p q c.args.file.now c.args.expansion c.args.hash c.args.given.items (end_by c.in-Fails.fault) i.1 i.2.told k),
+            subst (λ end. Leads {A = Nothing} 0 p q (include_left w c.args.context.unit.now p (reading_of p.names c.args.context.snapshot.now c.args.file.now) k c.args.expansion c.args.given.items c.args.hash) (Ends end [])) (sym c.at.ensures)
+            (include_fails w c.args.context.unit.now c.args.context.snapshot.now p q c.args.file.now c.args.expansion c.args.hash c.args.given.items (end_by c.in-Fails.fault) i.1 i.2.told k),
         c.in_ok-step.ensures.good,
       );
   falls = tt;
@@ -69,9 +69,9 @@ pub returns-in_ok-next-in-Ends : goal.returns-in_ok-next-in-Ends
 returns-in_ok-next-in-Ends c = record {
   turned =
       let i : IsUsed c.args.progress.now c.step.new.progress c.args.expansion c.step.new.self use1.Ends = subst (IsUsed c.args.progress.now c.step.new.progress c.args.expansion c.step.new.self) c.in-Ends.is c.in_ok-step.ensures.used in
-      let w = world_of c.args.snapshot.now in
-      let u = c.args.unit.now in
-      let files = c.args.snapshot.now in
+      let w = world_of c.args.context.snapshot.now in
+      let u = c.args.context.unit.now in
+      let files = c.args.context.snapshot.now in
       let p = c.args.progress.now in
       let q = c.step.new.progress in
       let f = c.args.file.now in

@@ -21,8 +21,8 @@ returns-in-Goes c = record {
       let q = c.step.new.progress in
       let n = c.used-progress.result in
       let limit : n ≤ LIMIT = subst (λ m. m ≤ LIMIT) (sym c.used-progress.ensures) i.5.limit in (
-        run_goes c.defined_macros_are_known.ensures (world_of c.args.snapshot.now) c.args.unit.now c.args.snapshot.now p q c.args.file.now i.0 c.args.expansion c.step.new.self c.args.then c.requires.good c.requires.open c.requires.expanding i.4 i.1 i.6 n i.2,
-        run_working c.args.snapshot.now p q (with_used q n) c.args.file.now i.0 c.step.new.self c.args.then n c.requires.open c.requires.line i.4 i.5 (i.6 ∙ c.requires.literal) (used_good q n c.in_ok-step.ensures.good limit) refl,
+        run_goes c.defined_macros_are_known.ensures (world_of c.args.context.snapshot.now) c.args.context.unit.now c.args.context.snapshot.now p q c.args.file.now i.0 c.args.expansion c.step.new.self c.args.then c.requires.good c.requires.open c.requires.expanding i.4 i.1 i.6 n i.2,
+        run_working c.args.context.snapshot.now p q (with_used q n) c.args.file.now i.0 c.step.new.self c.args.then n c.requires.open c.requires.line i.4 i.5 (i.6 ∙ c.requires.literal) (used_good q n c.in_ok-step.ensures.good limit) refl,
       );
   falls = tt;
 }
@@ -31,7 +31,7 @@ pub returns-in_ok-turned-in-Gives : goal.returns-in_ok-turned-in-Gives
 returns-in_ok-turned-in-Gives c = record {
   turned =
       let i : IsUsed c.args.progress.now c.step.new.progress c.args.expansion c.step.new.self (use1.Gives c.in-Gives.t) = subst (IsUsed c.args.progress.now c.step.new.progress c.args.expansion c.step.new.self) c.in-Gives.is c.in_ok-step.ensures.used in
-      run_gives c.defined_macros_are_known.ensures (world_of c.args.snapshot.now) c.args.unit.now c.args.snapshot.now c.args.progress.now c.step.new.progress c.give.new.progress c.args.file.now c.args.expansion c.step.new.self c.args.then c.used-progress-in-Gives.result c.in-Gives.t
+      run_gives c.defined_macros_are_known.ensures (world_of c.args.context.snapshot.now) c.args.context.unit.now c.args.context.snapshot.now c.args.progress.now c.step.new.progress c.give.new.progress c.args.file.now c.args.expansion c.step.new.self c.args.then c.used-progress-in-Gives.result c.in-Gives.t
       c.requires.good c.requires.open c.requires.line c.requires.expanding c.requires.literal c.in_ok-step.ensures.good c.used-progress-in-Gives.ensures i c.in_ok-turned-in-Gives.turned c.in_ok-turned-in-Gives.ensures.given;
   falls =
       given_falls _ c.give.new.progress c.args.progress.now c.give.new.progress c.in-Gives.t c.args.file.now c.args.file.now (doing.Expands c.args.expansion c.args.then) (doing.Expands c.step.new.self c.args.then) c.in_ok-turned-in-Gives.turned c.in_ok-turned-in-Gives.ensures.given;
@@ -42,7 +42,7 @@ returns-in_ok-turned-in-Ends c = record {
   turned =
       let i : IsUsed c.args.progress.now c.step.new.progress c.args.expansion c.step.new.self use1.Ends = subst (IsUsed c.args.progress.now c.step.new.progress c.args.expansion c.step.new.self) c.in-Ends.is c.in_ok-step.ensures.used in
       c.in_ok-turned-in-Ends.ensures.turned c.args.progress.now (doing.Expands c.args.expansion c.args.then) c.requires.good
-      (run_ends (world_of c.args.snapshot.now) c.args.unit.now c.args.snapshot.now c.args.progress.now c.step.new.progress c.args.file.now c.args.expansion c.step.new.self c.args.then c.used-progress-in-Ends.result c.used-progress-in-Ends.ensures i);
+      (run_ends (world_of c.args.context.snapshot.now) c.args.context.unit.now c.args.context.snapshot.now c.args.progress.now c.step.new.progress c.args.file.now c.args.expansion c.step.new.self c.args.then c.used-progress-in-Ends.result c.used-progress-in-Ends.ensures i);
   falls =
       let i : IsUsed c.args.progress.now c.step.new.progress c.args.expansion c.step.new.self use1.Ends = subst (IsUsed c.args.progress.now c.step.new.progress c.args.expansion c.step.new.self) c.in-Ends.is c.in_ok-step.ensures.used in
       c.in_ok-turned-in-Ends.ensures.falls c.args.progress.now c.args.expansion (sym (ap (λ x. x.reading) i.0));
@@ -54,13 +54,13 @@ returns-in-Fails c = record {
       let p = c.args.progress.now in
       let q = c.step.new.progress in
       let i : IsUsed p q c.args.expansion c.step.new.self (use1.Fails c.in-Fails.fault) = subst (IsUsed p q c.args.expansion c.step.new.self) c.in-Fails.is c.in_ok-step.ensures.used in
-      let w = world_of c.args.snapshot.now in
-      let r = reading_of p.names c.args.snapshot.now c.args.file.now in (
+      let w = world_of c.args.context.snapshot.now in
+      let r = reading_of p.names c.args.context.snapshot.now c.args.file.now in (
         0,
         inl refl,
         λ k.
-            subst (λ end. Leads {A = Nothing} 0 p q (doing_left w c.args.unit.now p r k (doing.Expands c.args.expansion c.args.then)) (Ends end [])) (sym c.earlier.ensures)
-            (run_fails w c.args.unit.now r k c.args.then p q (table_for p c.args.expansion) (state_of p) (ahead_in p c.args.expansion) (end_by c.in-Fails.fault) i.0 i.2.told),
+            subst (λ end. Leads {A = Nothing} 0 p q (doing_left w c.args.context.unit.now p r k (doing.Expands c.args.expansion c.args.then)) (Ends end [])) (sym c.earlier.ensures)
+            (run_fails w c.args.context.unit.now r k c.args.then p q (table_for p c.args.expansion) (state_of p) (ahead_in p c.args.expansion) (end_by c.in-Fails.fault) i.0 i.2.told),
         c.in_ok-step.ensures.good,
       );
   falls = tt;
