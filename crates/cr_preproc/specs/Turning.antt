@@ -1,5 +1,5 @@
 -- What is left while an open file is worked on, and what a turn does.
-use Rattle.std.specs.Prelude.{◌≡◌, ◌≤◌, ◌+◌, ◌⊎◌, ℕ, suc, if◌then◌else◌, List, [], ◌∷◌, length, Option, Some, None, Result, Ok, Err}
+use Rattle.std.specs.Prelude.{◌≡◌, ◌≤◌, ◌+◌, ◌⊎◌, ℕ, suc, if◌then◌else◌, List, [], length, Option, Some, None, Result, Ok, Err}
 use Rattle.cr_base.specs.declared.cause.IllCause.TheVariants as cause
 use Rattle.cr_base.specs.declared.cause.Role.TheVariants.{Directive as InDirective}
 use Rattle.cr_base.specs.declared.unit.Unit.{Unit}
