@@ -128,7 +128,8 @@ IsOfSearch (turned.Opens f) = Prim.Unit {0}
 IsOfSearch (turned.Needs paths) = Prim.Unit {0}
 IsOfSearch (turned.Ends fault) = Prim.Unit {0}
 
--- How many steps a turn makes that isn't answered as a step: none, but that its last turn may be one.
+-- How many steps a turn makes that isn't answered as a step, by how the unit has ended behind it: none; but where that is over
+-- its tokens, it may have used a rule.
 abbrev pub IsUncounted : ℕ → Option Ending → Type 0
 IsUncounted n None = n ≡ 0
 IsUncounted n (Some ending.Done) = n ≡ 0
