@@ -1,16 +1,11 @@
 -- What is left behind a directive that ends the run.
-use Rattle.std.proofs.Common.{◌≡◌, ℕ, ◌+◌, ◌-◌, ◌≤◌, List, [], ◌∷◌, ◌++◌, length, drop, refl, ap, sym, ◌∙◌, subst, arith, Vec, Global}
+use Rattle.std.proofs.Common.{◌≡◌, ◌-◌, ◌≤◌, List, [], length, refl, ap, sym, ◌∙◌, subst, arith, Vec, Global}
 use Rattle.std.specs.Prelude.{Result, Ok, Err}
-use Rattle.std.specs.List.{AllByRecursion}
 use Rattle.cr_base.specs.declared.unit.Unit.{Unit}
 use Rattle.cr_base.specs.declared.token.PpTok.{PpTok}
-use Rattle.cr_base.specs.declared.token.PathNo.{PathNo}
 use Rattle.cr_base.specs.declared.token.Place.{Place}
-use Rattle.cr_base.specs.declared.token.Origin.{Origin}
-use Rattle.cr_base.specs.declared.cause.IllCause.TheVariants as cause
 use Rattle.cr_base.specs.declared.cause.Role.TheVariants.{Directive as InDirective}
-use Rattle.cr_lex.specs.Seen.{IsOf}
-use Rattle.cr_macros.specs.Definition.{text_of, IsPlaced, IsFirstPlaced}
+use Rattle.cr_macros.specs.Definition.{text_of}
 use Rattle.cr_macros.specs.Expansion.{expand}
 use Rattle.cr_macros.specs.MacroTables.{table_of}
 use Rattle.cr_macros.specs.Substitution.{in_quotes, escaped}
@@ -27,23 +22,21 @@ use Rattle.cr_preproc.specs.declared.open_file.OpenFile.{OpenFile}
 use Rattle.cr_preproc.specs.declared.progress.Progress.{Progress}
 use Rattle.cr_preproc.specs.declared.turning.Doing.{Doing}
 use Rattle.cr_preproc.specs.declared.turning.Doing.TheVariants as doing
-use Rattle.cr_preproc.specs.Tasks.{End, Ill, Event, State, Reply, Goes, Ends, Task, Nothing, Done, behind, go_on, ◌>>>◌, tell, marks, from_answer, at_place, in_directive}
+use Rattle.cr_preproc.specs.Tasks.{Reply, Goes, Ends, Task, Nothing, Done, go_on, ◌>>>◌, tell, marks, from_answer, at_place, in_directive}
 use Rattle.cr_preproc.specs.declared.line.Word.{Word}
-use Rattle.cr_preproc.specs.Lines.{Line, Plain, Conditional, Directive, Empty, Wordless}
+use Rattle.cr_preproc.specs.Lines.{Line, Plain, Conditional, Directive, Empty}
 use Rattle.cr_preproc.specs.Runs.{expands}
 use Rattle.cr_preproc.specs.Directives.{opens, directive}
 use Rattle.cr_preproc.specs.Preprocessing.{does_file}
 use Rattle.cr_preproc.specs.Search.{World}
 use Rattle.cr_preproc.specs.OpenFiles.{Reading, reading_of, reads_file, IsOpen}
 use Rattle.cr_preproc.specs.Progressing.{state_of, IsProgress}
-use Rattle.cr_preproc.specs.Seen.{IsNamed, AreNamed}
+use Rattle.cr_preproc.specs.Seen.{AreNamed}
 use Rattle.cr_preproc.specs.Expanding.{IsExpanding, still_in, end_by}
 use Rattle.cr_preproc.specs.Leading.{Leads, IsDirected, includes_given}
-use Rattle.cr_preproc.specs.Turning.{file_goes, directed_left, carried, doing_left, IsEnded, IsBehind, IsDoing, IsWorking, IsTurned, LooksAt}
-use Rattle.cr_preproc.specs.declared.turning.Turned.TheVariants as turned
+use Rattle.cr_preproc.specs.Turning.{file_goes, directed_left, carried, doing_left, IsEnded, IsBehind, IsDoing, IsWorking, LooksAt}
 use Rattle.cr_preproc.proofs.Frames.{then_assoc}
 use Rattle.cr_preproc.proofs.Leadings.{behind_none, leads_same, leads_then, leads_from, leads_to, leads_go, same_on}
-use Rattle.cr_preproc.proofs.OpenLater.{named_of}
 use Rattle.cr_preproc.proofs.IncludeTurns.{include_left}
 
 -- the reading of a file whose line and run are gone

@@ -1,22 +1,20 @@
 -- What an expansion noted is kept, and what is held stays good as names are added.
-use Rattle.std.proofs.Common.{◌≡◌, ℕ, zero, suc, ◌+◌, ◌-◌, ◌<◌, ◌≤◌, true, List, [], ◌∷◌, ◌++◌, length, map, drop, refl, sym, ap, ◌∙◌, subst, arith, append-nil, append_assoc, length-append, Option, Some, None, inl, inr}
+use Rattle.std.proofs.Common.{◌≡◌, ◌-◌, ◌≤◌, List, [], ◌∷◌, ◌++◌, length, map, drop, refl, sym, ap, ◌∙◌, subst, arith, append-nil, append_assoc, length-append, None, inl, inr}
 use Rattle.std.specs.Prelude.{flat_map}
 use Rattle.std.specs.List.{All}
 use Rattle.std.proofs.lemmas.List.Elements.{All-nil, All-cons}
 use Rattle.cr_base.specs.declared.token.PpTok.{PpTok}
 use Rattle.cr_expand.specs.Items.{IsTokenNamed}
 use Rattle.cr_base.specs.NameTable.{IsDistinct}
-use Rattle.cr_base.specs.declared.token.Name.{Name}
-use Rattle.cr_macros.specs.declared.macros.Macro.{Macro}
 use Rattle.cr_macros.specs.declared.macros.Seen.{Seen}
-use Rattle.cr_macros.specs.MacroTables.{Macros, table_of}
+use Rattle.cr_macros.specs.MacroTables.{Macros}
 use Rattle.cr_macros.specs.declared.fault.ExpandFault.{ExpandFault}
 use Rattle.cr_macros.specs.Tokens.{Text, Event as Telling, Rule, Taken, tokens_of, Answer, Gave, Stopped, Cause, ArgCount, OpenCall, BadPaste, Over}
 use Rattle.cr_macros.specs.Definition.{text_of}
 use Rattle.cr_expand.specs.GoodMacros.{KeepsMacros}
 use Rattle.cr_expand.specs.HideSets.{Grows}
 use Rattle.cr_expand.specs.Held.{Watch, noted, noted_one, watch_of, IsNamed as IsNameKnown}
-use Rattle.cr_expand.specs.Machines.{AreMacros, IsSameRun, FaultsAtOnce}
+use Rattle.cr_expand.specs.Machines.{IsSameRun, FaultsAtOnce}
 use Rattle.cr_expand.specs.Held.{IsCause}
 use Rattle.cr_expand.specs.Expanders.{plain, IsRunning, runs_by}
 use Rattle.cr_expand.specs.declared.expander.Expander.{Expander}
@@ -25,17 +23,17 @@ use Rattle.cr_expand.specs.declared.machine.TheConstants.{LIMIT}
 use Rattle.cr_preproc.specs.declared.progress.Progress.{Progress}
 use Rattle.cr_preproc.specs.declared.progress.TheConstants.{MOST_TOKENS}
 use Rattle.cr_preproc.specs.declared.trace.Trace.{Trace as KeptTrace}
-use Rattle.cr_preproc.specs.Tasks.{Event, Told, State, end_of}
-use Rattle.cr_preproc.specs.PreprocessingRun.{final_tokens, steps}
+use Rattle.cr_preproc.specs.Tasks.{Told, State, end_of}
+use Rattle.cr_preproc.specs.PreprocessingRun.{final_tokens}
 use Rattle.cr_base.specs.declared.token.Place.{Place}
 use Rattle.cr_preproc.specs.Traces.{Trace, all_events_seen, new_macros_of, body_params_of, opaque_place}
-use Rattle.cr_preproc.specs.Seen.{AreNamed, AreMacrosNamed, macros_of}
-use Rattle.cr_preproc.specs.Progressing.{state_of, kept, IsTold, IsProgress}
+use Rattle.cr_preproc.specs.Seen.{AreNamed, AreMacrosNamed}
+use Rattle.cr_preproc.specs.Progressing.{state_of, IsProgress}
 use Rattle.cr_preproc.specs.declared.expansion.Expansion.{Expansion}
 use Rattle.cr_preproc.specs.declared.expansion.Fault.{Fault}
 use Rattle.cr_preproc.specs.Expanding.{IsNoted, IsKept, IsExpanding, IsFaultOf, StopsAt, end_by}
 use Rattle.cr_preproc.proofs.ToldByUses.{told_none}
-use Rattle.cr_preproc.proofs.NamesGrow.{longer, tokens_later, all_named_later, known_later}
+use Rattle.cr_preproc.proofs.NamesGrow.{tokens_later, all_named_later, known_later}
 
 -- the places that are still to be kept come behind what is kept
 pub record IsKeeping (first now : KeptTrace) (left all : List Seen) : Type 0 where

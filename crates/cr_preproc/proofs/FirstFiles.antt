@@ -1,17 +1,16 @@
 -- Files that no include names.
-use Rattle.std.proofs.Common.{◌≡◌, ℕ, zero, suc, ◌+◌, ◌<◌, Bool, true, false, cond, not, List, [], ◌∷◌, length, refl, sym, ap, ◌∙◌, subst, arith, Option, Some, None, nat_lt}
+use Rattle.std.proofs.Common.{◌≡◌, ℕ, ◌+◌, ◌<◌, Bool, true, false, cond, not, List, [], ◌∷◌, length, refl, ap, arith, Some, None, nat_lt}
 use Rattle.std.specs.Prelude.{bytes_eq, position, if◌then◌else◌}
 use Rattle.std.specs.List.{position_or_len}
 use Rattle.std.proofs.lemmas.Bool.Decides.{nat_tests}
-use Rattle.cr_base.specs.declared.token.Place.{Place}
 use Rattle.cr_base.specs.declared.unit.Unit.{Unit}
 use Rattle.cr_macros.specs.Tokens.{Text}
 use Rattle.cr_snapshot.specs.declared.known.KnownFile.{KnownFile}
 use Rattle.cr_snapshot.specs.Files.{Finding, Present, Absent, Unknown, told, finding, finding_from}
-use Rattle.cr_preproc.specs.Tasks.{Needs, State, Reply, Ends, Nothing}
+use Rattle.cr_preproc.specs.Tasks.{Needs, State, Ends}
 use Rattle.cr_preproc.specs.Lines.{place_in}
-use Rattle.cr_preproc.specs.Search.{World, Search, Finds, Misses, Lacks, search, number_among, world_of}
-use Rattle.cr_preproc.specs.Directives.{Opening, looks, opens}
+use Rattle.cr_preproc.specs.Search.{Finds, Misses, Lacks, number_among, world_of}
+use Rattle.cr_preproc.specs.Directives.{looks}
 use Rattle.cr_preproc.specs.Preprocessing.{does_first_file, does_file, levels}
 
 -- the place among files, or their number

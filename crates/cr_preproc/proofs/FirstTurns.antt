@@ -1,5 +1,5 @@
 -- What the opening of a file that no include names is for the whole unit.
-use Rattle.std.proofs.Common.{◌≡◌, ℕ, ◌+◌, ◌≤◌, List, [], ◌∷◌, ◌++◌, length, reverse, refl, sym, ap, ◌∙◌, subst, arith, append-nil, Option, Some, None, inl}
+use Rattle.std.proofs.Common.{◌≡◌, ◌+◌, ◌≤◌, List, [], length, reverse, refl, sym, ap, ◌∙◌, subst, arith, append-nil, Option, Some, None, inl}
 use Rattle.std.specs.Prelude.{Vec}
 use Rattle.std.specs.declared.alloc.Global.{Global}
 use Rattle.cr_base.specs.declared.unit.Unit.{Unit}
@@ -17,14 +17,12 @@ use Rattle.cr_preproc.specs.declared.preproc.Preproc.{Preproc}
 use Rattle.cr_preproc.specs.declared.turning.Doing.{Doing}
 use Rattle.cr_preproc.specs.declared.turning.Doing.TheVariants as doing
 use Rattle.cr_preproc.specs.declared.turning.Turned.TheVariants as turned
-use Rattle.cr_preproc.specs.Tasks.{Needs, State, Reply, Goes, Ends, Task, Nothing, Done, go_on, ◌>>>◌, ready}
+use Rattle.cr_preproc.specs.Tasks.{State, Reply, Goes, Ends, Task, Nothing, Done, go_on, ◌>>>◌, ready}
 use Rattle.cr_preproc.specs.Search.{World, world_of}
 use Rattle.cr_preproc.specs.Preprocessing.{does_first_file, preprocessed, at_first}
-use Rattle.cr_preproc.specs.OpenFiles.{Reading, reads_file, reading_of, IsOpen}
-use Rattle.cr_preproc.specs.Progressing.{state_of, IsProgress}
-use Rattle.cr_preproc.specs.Expanding.{end_by}
-use Rattle.cr_preproc.specs.Leading.{Leads}
-use Rattle.cr_preproc.specs.Turning.{doing_left, IsDoing, IsWorking, IsOpened}
+use Rattle.cr_preproc.specs.OpenFiles.{reads_file, reading_of}
+use Rattle.cr_preproc.specs.Progressing.{state_of}
+use Rattle.cr_preproc.specs.Turning.{doing_left, IsDoing, IsOpened}
 use Rattle.cr_preproc.specs.Preprocs.{firsts_left, files_left, going_left, left_by, left_of, IsOuter, AreOpen, IsGoing, IsPreproc, IsSameUnit, TurnLeads, path_of, next_of}
 use Rattle.cr_preproc.proofs.Leadings.{behind_none, leads_from, leads_to, leads_go}
 use Rattle.cr_preproc.proofs.UnitTurns.{left_going, good_going, good_none, uncounted}

@@ -1,5 +1,5 @@
 -- The list of an include, token by token, and what is left behind it.
-use Rattle.std.proofs.Common.{◌≡◌, ℕ, ◌+◌, ◌-◌, ◌≤◌, Bool, true, false, cond, List, [], ◌∷◌, ◌++◌, map, length, refl, ap, sym, ◌∙◌, subst, append-nil, append_assoc, Option, Some, None}
+use Rattle.std.proofs.Common.{◌≡◌, ℕ, ◌+◌, ◌-◌, ◌≤◌, cond, List, [], ◌∷◌, ◌++◌, map, length, refl, ap, sym, ◌∙◌, subst, append-nil, append_assoc, Option, Some, None}
 use Rattle.std.specs.Prelude.{codes}
 use Rattle.std.specs.Option.{option_map}
 use Rattle.std.proofs.lemmas.List.{map-append}
@@ -12,7 +12,7 @@ use Rattle.cr_base.specs.declared.cause.IllCause.{IllCause}
 use Rattle.cr_base.specs.declared.cause.IllCause.TheVariants as cause
 use Rattle.cr_base.specs.declared.cause.Role.{Role}
 use Rattle.cr_base.specs.declared.cause.Role.TheVariants.{Directive as InDirective}
-use Rattle.cr_macros.specs.Tokens.{Text, Token, Event as Telling, Answer, Gave, Stopped, taken_at, takes, is_mark, token_of, tokens_of}
+use Rattle.cr_macros.specs.Tokens.{Text, Token, Event as Telling, Answer, Gave, Stopped, taken_at, is_mark, token_of, tokens_of}
 use Rattle.cr_snapshot.specs.IncludeSearch.{candidates}
 use Rattle.cr_snapshot.specs.declared.known.KnownFile.{KnownFile}
 use Rattle.cr_expand.specs.Expanders.{plain}
@@ -26,7 +26,7 @@ use Rattle.cr_preproc.specs.declared.expansion.Use.TheVariants as use1
 use Rattle.cr_preproc.specs.declared.open_file.OpenFile.{OpenFile}
 use Rattle.cr_preproc.specs.declared.progress.Progress.{Progress}
 use Rattle.cr_preproc.specs.declared.turning.Doing.{Doing}
-use Rattle.cr_preproc.specs.Tasks.{End, Event, Told, State, Reply, Goes, Ends, Task, Nothing, Done, behind, go_on, ◌>>>◌, tell, marks, from_answer, at_place, end_of, told_by_uses, moved}
+use Rattle.cr_preproc.specs.Tasks.{End, Told, State, Reply, Ends, Task, Nothing, behind, go_on, ◌>>>◌, tell, marks, at_place, end_of, told_by_uses, moved}
 use Rattle.cr_preproc.specs.Directives.{Opening, Header, all_marks, blank_of, if_last, to_greater, angled, header_name, site_of, opens, includes_expanded}
 use Rattle.cr_preproc.specs.Preprocessing.{does_file}
 use Rattle.cr_preproc.specs.Search.{World}

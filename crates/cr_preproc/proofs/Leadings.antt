@@ -1,12 +1,12 @@
 -- How far the code has led a unit, one task behind another.
-use Rattle.std.proofs.Common.{◌≡◌, ℕ, ◌+◌, List, [], ◌∷◌, ◌++◌, refl, ap, sym, ◌∙◌, append-nil, append_assoc}
+use Rattle.std.proofs.Common.{◌≡◌, ℕ, ◌+◌, List, [], ◌++◌, refl, ap, sym, ◌∙◌, append-nil, append_assoc}
 use Rattle.cr_base.specs.declared.token.Place.{Place}
 use Rattle.cr_macros.specs.Tokens.{Text, Token}
 use Rattle.cr_preproc.specs.declared.progress.Progress.{Progress}
-use Rattle.cr_preproc.specs.Tasks.{End, Event, State, Reply, Goes, Ends, Task, Nothing, Done, behind, go_on, ◌>>>◌, tell, at_place, moved, events_of}
+use Rattle.cr_preproc.specs.Tasks.{Event, State, Reply, Goes, Ends, Task, Done, behind, go_on, ◌>>>◌, tell, at_place, events_of}
 use Rattle.cr_preproc.specs.PreprocessingRun.{steps}
 use Rattle.cr_preproc.specs.Runs.{runs, earlier, after_run}
-use Rattle.cr_preproc.specs.Progressing.{state_of, IsProgress, IsTold, Did}
+use Rattle.cr_preproc.specs.Progressing.{state_of, IsProgress, Did}
 use Rattle.cr_preproc.specs.Leading.{Leads}
 use Rattle.cr_preproc.proofs.Frames.{behind_behind, behind_then}
 use Rattle.cr_preproc.proofs.Progresses.{steps_behind, told_none, told_then}

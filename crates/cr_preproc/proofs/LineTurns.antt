@@ -11,8 +11,6 @@ use Rattle.cr_base.specs.declared.token.PpTok.{PpTok}
 use Rattle.cr_base.specs.NameTable.{IsDistinct}
 use Rattle.cr_lex.specs.Lexing.{Lexed, stop}
 use Rattle.cr_lex.specs.Lexing as lexing
-use Rattle.cr_lex.specs.Seen.{fault_in}
-use Rattle.cr_lex.specs.declared.fault.LexFault.TheVariants as lexes
 use Rattle.cr_macros.specs.Definition.{text_of}
 use Rattle.cr_macros.specs.Expansion.{expand}
 use Rattle.cr_macros.specs.MacroTables.{table_of}
@@ -36,10 +34,10 @@ use Rattle.cr_preproc.specs.declared.turning.Then.TheVariants as then
 use Rattle.cr_preproc.specs.Tasks.{Ill, Over, Reading as OfReading, Took, State, Reply, Goes, Ends, Task, Nothing, Done, behind, go_on, ◌>>>◌, only, ends, tell, marks, reads, in_directive, events_of}
 use Rattle.cr_preproc.specs.Lines.{Line, Plain, Conditional, Directive, Empty, Wordless, line_of, fault_of, token_in}
 use Rattle.cr_preproc.specs.Search.{World}
-use Rattle.cr_preproc.specs.Runs.{runs, run_in, expands, earlier, after_run, inside}
+use Rattle.cr_preproc.specs.Runs.{runs, run_in, expands, earlier, after_run}
 use Rattle.cr_preproc.specs.Conditionals.{is_live, is_word_live, conditional}
 use Rattle.cr_preproc.specs.OpenIfs.{first_of}
-use Rattle.cr_preproc.specs.Directives.{Opening, directive}
+use Rattle.cr_preproc.specs.Directives.{directive}
 use Rattle.cr_preproc.specs.Preprocessing.{Ahead, ahead, does_file, by_line, at_end, is_plain, run_with, where_live}
 use Rattle.cr_preproc.specs.OpenFiles.{Reading, reads_behind, reads_file, reading_of, IsOpen}
 use Rattle.cr_preproc.specs.OpenFileSteps.{HasLine, LacksLine, TellsNext, Takes}
@@ -52,7 +50,7 @@ use Rattle.cr_preproc.proofs.Frames.{behind_then, then_assoc}
 use Rattle.cr_preproc.proofs.Leadings.{behind_none, leads_to, leads_go, leads_inside, same_on}
 use Rattle.cr_preproc.proofs.OpenLater.{tokens_later}
 use Rattle.cr_preproc.proofs.Progresses.{told_none}
-use Rattle.cr_preproc.proofs.ReadingKept.{Keeps, KeepsReading, kept_behind}
+use Rattle.cr_preproc.proofs.ReadingKept.{KeepsReading, kept_behind}
 use Rattle.cr_preproc.proofs.ReadingOn.{takes_one, line_done, file_done}
 use Rattle.cr_preproc.proofs.RunsAhead.{run_is}
 

@@ -1,5 +1,5 @@
 -- What is left of the list of a conditional, use by use, and what it decides.
-use Rattle.std.proofs.Common.{◌≡◌, ◌≤◌, ℕ, ◌+◌, ◌-◌, List, [], ◌∷◌, ◌++◌, length, map, refl, sym, ap, ◌∙◌, subst, arith, append-nil, append_assoc, Bool, true, false, cond, Ok, Err}
+use Rattle.std.proofs.Common.{◌≡◌, ◌≤◌, ℕ, ◌+◌, ◌-◌, List, [], ◌∷◌, ◌++◌, length, map, refl, sym, ap, ◌∙◌, arith, append-nil, append_assoc, Bool, cond, Ok, Err}
 use Rattle.std.specs.Prelude.{flat_map}
 use Rattle.std.proofs.lemmas.List.{map-append}
 use Rattle.std.proofs.lemmas.List.Sums.{sum_by-cons}
@@ -8,7 +8,6 @@ use Rattle.cr_base.specs.declared.cause.Role.TheVariants.{Controlling}
 use Rattle.cr_base.specs.declared.token.Place.{Place}
 use Rattle.cr_base.specs.declared.token.PpTok.{PpTok}
 use Rattle.cr_base.specs.declared.unit.Unit.{Unit}
-use Rattle.cr_cond.specs.Symbols.{Lexeme}
 use Rattle.cr_cond.specs.Value.{value_of, numbered}
 use Rattle.cr_macros.specs.Tokens.{Text, Token, token_of, tokens_of, Event as Telling, Rule, Taken, Answer, Gave, Stopped}
 use Rattle.cr_expand.specs.GoodMacros.{KeepsMacros}
@@ -21,10 +20,10 @@ use Rattle.cr_preproc.specs.declared.expansion.Fault.{Fault}
 use Rattle.cr_preproc.specs.declared.open_ifs.OpenIf.{OpenIf}
 use Rattle.cr_preproc.specs.declared.progress.Progress.{Progress}
 use Rattle.cr_preproc.specs.declared.progress.TheConstants.{MOST_TOKENS}
-use Rattle.cr_preproc.specs.Tasks.{End, Event, Told, State, Reply, Goes, Ends, Task, Nothing, Done, behind, go_on, ◌>>>◌, only, tell, marks, at_place, from_answer, end_of, told_by_uses, moved, events_of}
+use Rattle.cr_preproc.specs.Tasks.{End, Told, State, Reply, Ends, Task, Nothing, behind, go_on, ◌>>>◌, only, tell, marks, at_place, from_answer, end_of, told_by_uses, moved, events_of}
 use Rattle.cr_preproc.specs.PreprocessingRun.{is_step, steps}
 use Rattle.cr_preproc.specs.Search.{World}
-use Rattle.cr_preproc.specs.Runs.{runs, earlier, after_run}
+use Rattle.cr_preproc.specs.Runs.{runs, earlier}
 use Rattle.cr_preproc.specs.Conditionals.{lexeme_of, is_true, list_value}
 use Rattle.cr_preproc.specs.OpenFiles.{Reading, reads_file}
 use Rattle.cr_preproc.specs.Progressing.{state_of, IsProgress}

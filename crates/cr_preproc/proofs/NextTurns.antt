@@ -1,5 +1,5 @@
 -- What is done next in an open file, and what it works with.
-use Rattle.std.proofs.Common.{◌⊎◌, inl, inr, Bor, ◌≡◌, ◌<◌, ◌≤◌, ◌-◌, ◌+◌, ℕ, true, false, cond, List, [], ◌∷◌, length, refl, sym, ap, subst, ◌∙◌, arith, Some, None, Result, Ok, Err}
+use Rattle.std.proofs.Common.{◌⊎◌, inl, inr, Bor, ◌≡◌, ◌<◌, ◌≤◌, ◌-◌, true, false, cond, List, [], ◌∷◌, length, refl, sym, ap, subst, ◌∙◌, arith, Some, None, Result, Ok, Err}
 use Rattle.std.specs.Prelude.{IfOk}
 use Rattle.cr_base.specs.NameTable.{IsDistinct}
 use Rattle.cr_base.specs.declared.cause.IllCause.TheVariants as cause
@@ -9,8 +9,7 @@ use Rattle.cr_base.specs.declared.token.PpTok.{PpTok}
 use Rattle.cr_base.specs.declared.unit.Unit.{Unit}
 use Rattle.cr_lex.specs.Lexing as lexing
 use Rattle.cr_lex.specs.Lexing.{stop}
-use Rattle.cr_lex.specs.Seen.{fault_in}
-use Rattle.cr_macros.specs.Tokens.{Text, Token, token_of, tokens_of}
+use Rattle.cr_macros.specs.Tokens.{Text, Token, tokens_of}
 use Rattle.cr_snapshot.specs.declared.known.KnownFile.{KnownFile}
 use Rattle.cr_expand.specs.GoodMacros.{KeepsMacros}
 use Rattle.cr_expand.specs.HideSets.{Grows}
@@ -27,8 +26,8 @@ use Rattle.cr_preproc.specs.declared.turning.Doing.{Doing}
 use Rattle.cr_preproc.specs.declared.turning.Doing.TheVariants as doing
 use Rattle.cr_preproc.specs.declared.turning.Then.{Then}
 use Rattle.cr_preproc.specs.declared.turning.Then.TheVariants as then
-use Rattle.cr_preproc.specs.Tasks.{Took, State, Reply, Task, Nothing, behind, go_on, ◌>>>◌, marks}
-use Rattle.cr_preproc.specs.Lines.{Line, Plain, Conditional, Directive, Empty, Wordless, line_of, fault_of}
+use Rattle.cr_preproc.specs.Tasks.{Took, Reply, Task, Nothing, behind, ◌>>>◌, marks}
+use Rattle.cr_preproc.specs.Lines.{Line, Plain, Conditional, line_of, fault_of}
 use Rattle.cr_preproc.specs.Search.{World}
 use Rattle.cr_preproc.specs.Runs.{runs}
 use Rattle.cr_preproc.specs.Conditionals.{is_live, is_word_live}

@@ -1,5 +1,5 @@
 -- Files that are included are looked for and opened.
-use Rattle.std.proofs.Common.{◌≡◌, ℕ, zero, suc, SomeIff, ◌-◌, ◌+◌, ◌<◌, ◌≤◌, Bool, true, false, cond, List, [], ◌∷◌, ◌++◌, length, map, refl, sym, ap, ◌∙◌, subst, arith, append-nil, Option, Some, None, inl}
+use Rattle.std.proofs.Common.{◌≡◌, ℕ, zero, suc, SomeIff, ◌-◌, ◌+◌, ◌<◌, ◌≤◌, Bool, true, false, cond, List, [], ◌∷◌, length, refl, sym, ap, ◌∙◌, subst, arith, append-nil, Option, Some, None, inl}
 use Rattle.std.specs.Prelude.{nat_lt}
 use Rattle.std.proofs.lemmas.Bool.Decides.{nat_tests}
 use Rattle.cr_base.specs.NameTable.{IsDistinct}
@@ -9,7 +9,7 @@ use Rattle.cr_base.specs.declared.token.PpTok.{PpTok}
 use Rattle.cr_base.specs.declared.unit.Unit.{Unit}
 use Rattle.cr_lex.specs.Lexing.{lexed}
 use Rattle.cr_macros.specs.Definition.{text_of}
-use Rattle.cr_macros.specs.Tokens.{Text, Token, token_of, tokens_of, has}
+use Rattle.cr_macros.specs.Tokens.{Text, tokens_of, has}
 use Rattle.cr_snapshot.specs.declared.known.KnownFile.{KnownFile}
 use Rattle.cr_snapshot.specs.Files.{Finding, Present, Absent, Unknown}
 use Rattle.cr_expand.specs.GoodMacros.{KeepsMacros}
@@ -23,7 +23,7 @@ use Rattle.cr_preproc.specs.declared.turning.Turned.TheVariants as turned
 use Rattle.cr_preproc.specs.Tasks as tasks
 use Rattle.cr_preproc.specs.Tasks.{Ill, Over, Needs, Includes, Opened, Looked, Event, State, Reply, Goes, Ends, Task, Nothing, Done, behind, go_on, ◌>>>◌, ready}
 use Rattle.cr_preproc.specs.Lines.{File, file_of, fault_of, lines_of}
-use Rattle.cr_preproc.specs.Search.{World, Search, Finds, Misses, Lacks, search, unknown, looked_for}
+use Rattle.cr_preproc.specs.Search.{World, Finds, Misses, Lacks, search, unknown, looked_for}
 use Rattle.cr_preproc.specs.Directives.{Opening, opens_found, looks, opens}
 use Rattle.cr_preproc.specs.Preprocessing.{does_file, does_lines}
 use Rattle.cr_preproc.specs.OpenFiles.{Reading, reading_of, reads_file, IsOpen}
@@ -32,8 +32,7 @@ use Rattle.cr_preproc.specs.Progressing.{state_of, kept, IsTold, IsProgress}
 use Rattle.cr_preproc.specs.Leading.{Leads}
 use Rattle.cr_preproc.specs.Turning.{IsTurned, IsOpened, IsWorking, WantsNoFile, doing_left, enters}
 use Rattle.cr_preproc.proofs.Expandings.{progress_more, state_more}
-use Rattle.cr_preproc.proofs.Frames.{behind_then}
-use Rattle.cr_preproc.proofs.Leadings.{behind_none, leads_same, leads_then, leads_from, leads_to, leads_go}
+use Rattle.cr_preproc.proofs.Leadings.{behind_none, leads_then, leads_from, leads_to, leads_go}
 use Rattle.cr_preproc.proofs.NamesGrow.{tokens_later}
 use Rattle.cr_preproc.proofs.OpenLater.{reading_later, open_later}
 use Rattle.cr_preproc.proofs.Progresses.{joined_none, told_none, told_then}

@@ -1,5 +1,5 @@
 -- Conditional directives read no file: how much may be read stays the same.
-use Rattle.std.proofs.Common.{◌≡◌, ℕ, Bool, true, false, cond, List, [], ◌∷◌, ◌++◌, map, refl, sym, ap, subst, ◌∙◌, Result, Ok, Err}
+use Rattle.std.proofs.Common.{◌≡◌, ℕ, Bool, true, false, cond, List, [], ◌∷◌, map, refl, subst, Result, Ok, Err}
 use Rattle.std.specs.Prelude.{ℤ, not, flat_map}
 use Rattle.cr_base.specs.declared.token.Place.{Place}
 use Rattle.cr_base.specs.declared.cause.IllCause.TheVariants as cause
@@ -11,9 +11,9 @@ use Rattle.cr_preproc.specs.declared.line.Word.TheVariants.{If, Ifdef, Ifndef, E
 use Rattle.cr_preproc.specs.declared.open_ifs.Group.{Group}
 use Rattle.cr_preproc.specs.declared.open_ifs.Group.TheVariants.{Taken, Before, Past}
 use Rattle.cr_preproc.specs.declared.open_ifs.OpenIf.{OpenIf}
-use Rattle.cr_preproc.specs.Tasks.{Ill, marks, Event, State, Reply, Goes, Ends, Task, Nothing, behind, go_on, ◌>>>◌, only, ends, tell, look, from_answer, at_place, in_directive}
+use Rattle.cr_preproc.specs.Tasks.{Ill, marks, Event, State, Reply, Goes, Ends, Task, behind, go_on, ◌>>>◌, only, ends, tell, look, from_answer, at_place, in_directive}
 use Rattle.cr_preproc.specs.Runs.{expands}
-use Rattle.cr_preproc.specs.Conditionals.{is_macro, is_taken, group_if, opened, group_of_else, list_value, answered, asking, pieces, is_true, condition, is_named, elif_in, elif, else_in, endif, begun, conditional, is_live}
+use Rattle.cr_preproc.specs.Conditionals.{is_macro, group_if, opened, group_of_else, list_value, answered, asking, pieces, is_true, condition, is_named, elif_in, elif, else_in, endif, begun, conditional, is_live}
 
 -- whatever it comes to, this much may be read behind it
 abbrev pub Keeps : {A : Type 0} → ℕ → Reply A → Type 0

@@ -1,16 +1,16 @@
 -- A run goes from one token of its result to the next.
-use Rattle.std.proofs.Common.{◌≡◌, ℕ, zero, suc, ◌+◌, ◌<◌, ◌≤◌, Bool, true, false, cond, List, [], ◌∷◌, ◌++◌, length, map, refl, sym, ap, ◌∙◌, arith, length-append, append-nil, Option, Some, None}
+use Rattle.std.proofs.Common.{◌≡◌, ℕ, zero, suc, ◌+◌, ◌<◌, ◌≤◌, Bool, true, false, cond, List, [], ◌∷◌, ◌++◌, length, map, refl, sym, ap, ◌∙◌, arith, length-append, append-nil, Option}
 use Rattle.std.proofs.lemmas.List.{map-append}
-use Rattle.cr_macros.specs.Tokens.{Text, Token, Event as Telling, Answer, Gave, Stopped, after, then_do}
+use Rattle.cr_macros.specs.Tokens.{Token, Event as Telling, Answer, Gave, Stopped, after, then_do}
 use Rattle.cr_macros.specs.Expansion.{Table, Use, use_of}
 use Rattle.cr_macros.specs.Uses.{put_for, is_given, left_behind}
-use Rattle.cr_expand.specs.Ahead.{Next, next_on, next_by, next_within, next_token}
+use Rattle.cr_expand.specs.Ahead.{Next, next_on, next_within, next_token}
 use Rattle.cr_expand.specs.Machines.{EndsWithRule}
-use Rattle.cr_preproc.specs.Tasks.{Told, State, Goes, Ends, Reply, Task, Nothing, Done, behind, go_on, ◌>>>◌, gives, from_answer, end_of, told_by_uses}
-use Rattle.cr_preproc.specs.Runs.{run_on, run_by, run_in}
+use Rattle.cr_preproc.specs.Tasks.{Told, State, Ends, behind, go_on, ◌>>>◌, gives, from_answer, end_of, told_by_uses}
+use Rattle.cr_preproc.specs.Runs.{run_on, run_in}
 use Rattle.cr_preproc.specs.Leading.{given_on, run_left}
 use Rattle.cr_preproc.proofs.Deep.{follows_the_rules, behind_within, use_within}
-use Rattle.cr_preproc.proofs.Frames.{behind_behind, behind_then}
+use Rattle.cr_preproc.proofs.Frames.{behind_behind}
 use Rattle.cr_preproc.proofs.Leaving.{Pays, put_pays}
 use Rattle.cr_preproc.proofs.ToldByUses.{told_uses, TellsRule, put_tells_rule}
 

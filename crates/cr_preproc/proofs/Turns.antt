@@ -1,5 +1,5 @@
 -- What a use of a rule of an expansion changes, and what is left behind a run.
-use Rattle.std.proofs.Common.{◌≡◌, ℕ, ◌+◌, ◌-◌, ◌<◌, ◌≤◌, Bool, true, false, cond, List, [], ◌∷◌, map, length, refl, ap, sym, ◌∙◌, subst, arith, append-nil, Option, Some, None, inr}
+use Rattle.std.proofs.Common.{◌≡◌, ℕ, ◌+◌, ◌-◌, ◌≤◌, true, cond, List, [], ◌∷◌, map, length, refl, ap, sym, ◌∙◌, subst, arith, Option, Some, None, inr}
 use Rattle.std.specs.Prelude.{nat_lt}
 use Rattle.std.proofs.lemmas.Bool.Decides.{nat_tests}
 use Rattle.std.proofs.lemmas.List.Sums.{sum_by-cons}
@@ -8,11 +8,11 @@ use Rattle.cr_base.specs.declared.token.PpTok.{PpTok}
 use Rattle.cr_macros.specs.Definition.{text_of}
 use Rattle.cr_macros.specs.Expansion.{Table}
 use Rattle.cr_macros.specs.MacroTables.{table_of}
-use Rattle.cr_macros.specs.Tokens.{Text, Token, MacroText, Event as Telling, Rule, Taken, Answer, Gave, Stopped, after, token_of, tokens_of}
+use Rattle.cr_macros.specs.Tokens.{Text, Token, MacroText, Event as Telling, Rule, Taken, Answer, Gave, Stopped, after, token_of}
 use Rattle.cr_snapshot.specs.declared.known.KnownFile.{KnownFile}
 use Rattle.cr_expand.specs.Ahead.{Next, next_token}
 use Rattle.cr_expand.specs.GoodMacros.{KeepsMacros}
-use Rattle.cr_expand.specs.Machines.{ahead, uses}
+use Rattle.cr_expand.specs.Machines.{uses}
 use Rattle.cr_expand.specs.declared.machine.TheConstants.{LIMIT}
 use Rattle.cr_preproc.specs.declared.expansion.Expansion.{Expansion}
 use Rattle.cr_preproc.specs.declared.open_file.OpenFile.{OpenFile}
@@ -25,14 +25,14 @@ use Rattle.cr_preproc.specs.declared.turning.Turned.{Turned}
 use Rattle.cr_preproc.specs.declared.turning.Turned.TheVariants as turned
 use Rattle.cr_preproc.specs.declared.expansion.Use.TheVariants as use1
 use Rattle.cr_preproc.specs.RunTurns.{IsGiving}
-use Rattle.cr_preproc.specs.Tasks.{End, Limit, Over, Tokens, Event, Told, Final, State, Reply, Goes, Ends, Task, Nothing, Done, behind, go_on, ◌>>>◌, gives, from_answer, end_of, told_by_uses}
+use Rattle.cr_preproc.specs.Tasks.{End, Limit, Over, Tokens, Event, Told, Final, State, Reply, Goes, Ends, Task, Nothing, Done, behind, go_on, ◌>>>◌, gives, from_answer, told_by_uses}
 use Rattle.cr_preproc.specs.Lines.{line_of}
 use Rattle.cr_preproc.specs.PreprocessingRun.{is_step, steps}
 use Rattle.cr_preproc.specs.Runs.{run_in}
 use Rattle.cr_preproc.specs.Search.{World}
 use Rattle.cr_preproc.specs.OpenFiles.{Reading, reading_of, IsOpen}
 use Rattle.cr_preproc.specs.Progressing.{state_of, IsProgress, IsTold, Did}
-use Rattle.cr_preproc.specs.Expanding.{IsUsed, IsOneUse, IsNoted, IsExpanding, StopsAt, table_for, ahead_in, still_in, end_by}
+use Rattle.cr_preproc.specs.Expanding.{IsUsed, IsOneUse, IsNoted, IsExpanding, StopsAt, table_for, ahead_in, end_by}
 use Rattle.cr_preproc.specs.Leading.{Leads, given_on, run_left}
 use Rattle.cr_preproc.specs.Turning.{carried, then_left, doing_left, ended_behind, IsWorking, IsTurned}
 use Rattle.cr_preproc.proofs.Frames.{behind_then}

@@ -1,24 +1,20 @@
 -- Steps that are made one after another give the unit's preprocessing.
-use Rattle.std.proofs.Common.{◌≡◌, ℕ, suc, ◌+◌, List, [], ◌∷◌, ◌++◌, map, refl, sym, ap, subst, ◌∙◌, arith, append-nil}
-use Rattle.std.specs.Prelude.{Vec}
-use Rattle.std.specs.declared.alloc.Global.{Global}
+use Rattle.std.proofs.Common.{◌≡◌, ℕ, suc, ◌+◌, List, [], ◌++◌, map, sym, ap, subst, ◌∙◌, arith, append-nil}
 use Rattle.cr_base.specs.declared.unit.Unit.{Unit}
 use Rattle.cr_macros.specs.Definition.{text_of}
 use Rattle.cr_macros.specs.Tokens.{Text, tokens_of}
 use Rattle.cr_expand.specs.Expanders.{plain}
 use Rattle.cr_snapshot.specs.declared.known.KnownFile.{KnownFile}
-use Rattle.cr_preproc.specs.declared.expansion.Fault.{Fault}
-use Rattle.cr_preproc.specs.declared.preproc.PreTurn.TheVariants as pre
 use Rattle.cr_preproc.specs.declared.preproc.Preproc.{Preproc}
 use Rattle.cr_preproc.specs.Tasks.{Needs, Event, Reply, Goes, Ends, Nothing, Done, behind}
 use Rattle.cr_preproc.specs.PreprocessingRun.{final_tokens}
 use Rattle.cr_preproc.specs.Preprocessing.{preprocessed}
 use Rattle.cr_preproc.specs.Search.{world_of}
-use Rattle.cr_preproc.specs.Traces.{Trace, trace_of}
+use Rattle.cr_preproc.specs.Traces.{trace_of}
 use Rattle.cr_preproc.specs.Progressing.{state_of, joined, traced}
 use Rattle.cr_preproc.specs.Expanding.{end_by}
 use Rattle.cr_preproc.specs.Leading.{Leads}
-use Rattle.cr_preproc.specs.Preprocs.{left_of, left_by, IsFresh, IsPreStep, Run, Begins, Steps, AreMade, GoesByTheDefinition, EndsByTheDefinition}
+use Rattle.cr_preproc.specs.Preprocs.{left_of, left_by, IsFresh, Run, Begins, Steps, AreMade, GoesByTheDefinition, EndsByTheDefinition}
 use Rattle.cr_preproc.proofs.Leadings.{leads_same, leads_then}
 
 reached : (unit : Unit) (old new : Text) (files : List KnownFile) (first p : Preproc) (n : ℕ) → IsFresh unit old new first → Run files first n p → Leads n first.progress p.progress (left_of files first) (left_of files p)

@@ -1,14 +1,11 @@
 -- Turns one after another, up to a step or the unit's end.
-use Rattle.std.proofs.Common.{◌≡◌, ℕ, ◌+◌, List, [], ◌∷◌, refl, sym, ap, ◌∙◌, subst, arith, Option, Some, None, inl}
-use Rattle.std.specs.Prelude.{Vec, Result, Ok, Err, IfOk}
+use Rattle.std.proofs.Common.{◌≡◌, ℕ, ◌+◌, List, [], refl, sym, ap, ◌∙◌, subst, arith, Option, Some, None, inl}
+use Rattle.std.specs.Prelude.{Vec, Result, Ok, IfOk}
 use Rattle.cr_base.specs.declared.memory.OutOfMemory.{OutOfMemory}
 use Rattle.std.specs.declared.alloc.Global.{Global}
 use Rattle.cr_base.specs.declared.unit.Unit.{Unit}
-use Rattle.cr_base.specs.declared.cause.IllCause.{IllCause}
-use Rattle.cr_base.specs.declared.token.Place.{Place}
 use Rattle.cr_macros.specs.Tokens.{Text}
 use Rattle.cr_snapshot.specs.declared.known.KnownFile.{KnownFile}
-use Rattle.cr_preproc.specs.declared.expansion.Fault.{Fault}
 use Rattle.cr_preproc.specs.declared.open_file.OpenFile.{OpenFile}
 use Rattle.cr_preproc.specs.declared.progress.Progress.{Progress}
 use Rattle.cr_preproc.specs.declared.preproc.Ending.{Ending}
@@ -20,7 +17,7 @@ use Rattle.cr_preproc.specs.declared.preproc.PreTurn.TheVariants as pre
 use Rattle.cr_preproc.specs.declared.preproc.Preproc.{Preproc}
 use Rattle.cr_preproc.specs.declared.turning.Turned.{Turned}
 use Rattle.cr_preproc.specs.declared.turning.Turned.TheVariants as turned
-use Rattle.cr_preproc.specs.Tasks.{Needs, Reply, Goes, Ends, Task, Nothing, Done, State, ready}
+use Rattle.cr_preproc.specs.Tasks.{Needs, Reply, Goes, Ends, Task, Nothing, Done}
 use Rattle.cr_preproc.specs.Search.{World, world_of}
 use Rattle.cr_preproc.specs.Progressing.{state_of, IsProgress}
 use Rattle.cr_preproc.specs.Leading.{Leads}

@@ -1,19 +1,17 @@
 -- A list that is expanded, as the code does it: what it still gives, and what one more use of a rule does.
-use Rattle.std.specs.Prelude.{◌≡◌, ◌≤◌, ◌-◌, ℕ, true, List, [], ◌∷◌, ◌++◌, map, flat_map, Option, Some, None, ◌⊎◌}
-use Rattle.cr_base.specs.declared.token.PpTok.{PpTok}
+use Rattle.std.specs.Prelude.{◌≡◌, ◌≤◌, ◌-◌, true, List, [], ◌∷◌, ◌++◌, map, flat_map, Option, Some, None}
 use Rattle.cr_base.specs.declared.token.Place.{Place}
 use Rattle.cr_base.specs.declared.cause.IllCause.{IllCause}
 use Rattle.cr_base.specs.declared.cause.IllCause.TheVariants as cause
 use Rattle.cr_macros.specs.Definition.{text_of}
 use Rattle.cr_macros.specs.Expansion.{Table}
 use Rattle.cr_macros.specs.MacroTables.{table_of}
-use Rattle.cr_macros.specs.Tokens.{Text, Token, token_of, Event as Telling, Answer, Gave, Stopped, Cause, after}
+use Rattle.cr_macros.specs.Tokens.{Text, Token, token_of, Event as Telling, Answer, Gave, Stopped, after}
 use Rattle.cr_macros.specs.declared.fault.ExpandFault.{ExpandFault}
 use Rattle.cr_macros.specs.declared.fault.ExpandFault.TheVariants as fault
 use Rattle.cr_expand.specs.Ahead.{Next, next_token}
 use Rattle.cr_expand.specs.Expanders.{IsRunning}
 use Rattle.cr_expand.specs.Held.{IsNamed as IsNameKnown}
-use Rattle.cr_expand.specs.HideSets.{Grows}
 use Rattle.cr_expand.specs.Machines.{still, ahead, uses, EndsWithRule}
 use Rattle.cr_expand.specs.Running.{leads}
 use Rattle.cr_expand.specs.declared.machine.TheConstants.{LIMIT}

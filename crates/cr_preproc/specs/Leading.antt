@@ -1,6 +1,5 @@
 -- What is left of an open file while it is worked on, and how far the code has led a unit.
-use Rattle.std.specs.Prelude.{◌≡◌, ◌≤◌, ◌<◌, ℕ, Bool, true, false, if◌then◌else◌, List, [], ◌∷◌, ◌++◌, flat_map, Option, Some, None, Result, Ok, Err}
-use Rattle.cr_base.specs.declared.cause.IllCause.TheVariants as cause
+use Rattle.std.specs.Prelude.{◌≡◌, ℕ, Bool, List, [], ◌++◌, flat_map, Option, Some, None, Result, Ok, Err}
 use Rattle.cr_base.specs.declared.cause.Role.TheVariants.{Controlling, Directive as InDirective}
 use Rattle.cr_base.specs.declared.token.Place.{Place}
 use Rattle.cr_base.specs.declared.unit.Unit.{Unit}
@@ -16,17 +15,14 @@ use Rattle.cr_preproc.specs.declared.directing.Directed.TheVariants as directed
 use Rattle.cr_preproc.specs.declared.expansion.Fault.{Fault}
 use Rattle.cr_preproc.specs.declared.open_ifs.OpenIf.{OpenIf}
 use Rattle.cr_preproc.specs.declared.progress.Progress.{Progress}
-use Rattle.cr_preproc.specs.Tasks.{End, Ill, Event, State, Reply, Goes, Ends, Task, Nothing, Done, behind, go_on, ◌>>>◌, only, ready, ends, tell, marks, gives, from_answer, at_place, in_directive, events_of}
+use Rattle.cr_preproc.specs.Tasks.{Event, State, Reply, Goes, Ends, Task, Nothing, Done, behind, go_on, ◌>>>◌, only, ready, tell, marks, gives, from_answer, at_place, in_directive}
 use Rattle.cr_preproc.specs.PreprocessingRun.{steps}
-use Rattle.cr_preproc.specs.Lines.{Line, Plain, Conditional, Directive, Empty, Wordless, line_of}
 use Rattle.cr_preproc.specs.Search.{World}
-use Rattle.cr_preproc.specs.Runs.{run_in, expands, earlier, after_run}
+use Rattle.cr_preproc.specs.Runs.{run_in, expands}
 use Rattle.cr_preproc.specs.Conditionals.{group_if, opened, is_true, list_value}
 use Rattle.cr_preproc.specs.OpenIfs.{with_group}
-use Rattle.cr_preproc.specs.Directives.{Opening, all_marks, header_name, includes_expanded, opens, directive}
-use Rattle.cr_preproc.specs.Preprocessing.{does_file}
-use Rattle.cr_preproc.specs.OpenFiles.{Reading, reads_behind, reads_file}
-use Rattle.cr_preproc.specs.Progressing.{state_of, IsTold, IsProgress}
+use Rattle.cr_preproc.specs.Directives.{Opening, all_marks, header_name, includes_expanded, opens}
+use Rattle.cr_preproc.specs.Progressing.{state_of, IsTold}
 use Rattle.cr_preproc.specs.Expanding.{end_by}
 use Rattle.cr_preproc.specs.Seen.{AreNamed}
 use Rattle.cr_snapshot.specs.IncludeSearch.{candidates}

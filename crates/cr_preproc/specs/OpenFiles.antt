@@ -1,7 +1,6 @@
 -- A file that is read, as the definitions see it: the tokens of its present line that were taken, and what is left.
 use Rattle.std.specs.Prelude.{◌≡◌, ◌≤◌, ◌<◌, ℕ, if◌then◌else◌, List, [], ◌∷◌, ◌++◌, length, Some, slice_get}
 use Rattle.std.specs.List.{AllByRecursion}
-use Rattle.cr_base.specs.declared.token.PpTok.{PpTok}
 use Rattle.cr_base.specs.declared.unit.Unit.{Unit}
 use Rattle.cr_lex.specs.Lexing.{Lexed}
 use Rattle.cr_lex.specs.Lexing as lexing

@@ -1,14 +1,11 @@
 -- A unit that is preprocessed step by step: what is left of it, and what a run of steps gives.
-use Rattle.std.specs.Prelude.{◌≡◌, ℕ, zero, suc, ◌+◌, List, [], ◌∷◌, ◌++◌, map, reverse, Option, Some, None, Result, Ok, Err}
+use Rattle.std.specs.Prelude.{◌≡◌, ℕ, suc, ◌+◌, List, [], ◌∷◌, map, reverse, Option, Some, None, Result, Ok, Err}
 use Rattle.std.specs.List.{AllByRecursion}
 use Rattle.std.specs.Prelude.{Vec}
 use Rattle.std.specs.declared.alloc.Global.{Global}
-use Rattle.cr_base.specs.declared.token.Place.{Place}
-use Rattle.cr_base.specs.declared.token.PpTok.{PpTok}
-use Rattle.cr_base.specs.declared.cause.IllCause.{IllCause}
 use Rattle.cr_base.specs.declared.unit.Unit.{Unit}
 use Rattle.cr_base.specs.declared.memory.OutOfMemory.{OutOfMemory}
-use Rattle.cr_macros.specs.Tokens.{Text, Token, tokens_of}
+use Rattle.cr_macros.specs.Tokens.{Text, tokens_of}
 use Rattle.cr_macros.specs.Definition.{text_of}
 use Rattle.cr_expand.specs.Expanders.{plain}
 use Rattle.cr_snapshot.specs.declared.known.KnownFile.{KnownFile}
@@ -24,12 +21,12 @@ use Rattle.cr_preproc.specs.declared.preproc.Preproc.{Preproc}
 use Rattle.cr_preproc.specs.declared.turning.Doing.TheVariants as doing
 use Rattle.cr_preproc.specs.declared.turning.Turned.{Turned}
 use Rattle.cr_preproc.specs.declared.turning.Turned.TheVariants as turned
-use Rattle.cr_preproc.specs.Tasks.{End, Needs, Event, State, Reply, Goes, Ends, Task, Nothing, Done, behind, ◌>>>◌, ready}
+use Rattle.cr_preproc.specs.Tasks.{Needs, Event, State, Reply, Goes, Ends, Task, Nothing, Done, behind, ◌>>>◌, ready}
 use Rattle.cr_preproc.specs.PreprocessingRun.{steps, final_tokens}
 use Rattle.cr_preproc.specs.Search.{World, world_of, words_path}
 use Rattle.cr_preproc.specs.Preprocessing.{does_first_file, preprocessed}
-use Rattle.cr_preproc.specs.Traces.{Trace, trace_of}
-use Rattle.cr_preproc.specs.OpenFiles.{Reading, reads_file, reading_of, IsOpen}
+use Rattle.cr_preproc.specs.Traces.{trace_of}
+use Rattle.cr_preproc.specs.OpenFiles.{reads_file, reading_of, IsOpen}
 use Rattle.cr_preproc.specs.Progressing.{state_of, kept, IsProgress}
 use Rattle.cr_preproc.specs.Expanding.{ended_by, end_by}
 use Rattle.cr_preproc.specs.Leading.{Leads}
@@ -131,7 +128,8 @@ IsOfSearch (turned.Opens f) = Prim.Unit {0}
 IsOfSearch (turned.Needs paths) = Prim.Unit {0}
 IsOfSearch (turned.Ends fault) = Prim.Unit {0}
 
--- How many steps a turn makes that isn't answered as a step: none, but that its last turn may be one.
+-- How many steps a turn makes that isn't answered as a step, by how the unit has ended behind it: none; but where that is over
+-- its tokens, it may have used a rule.
 abbrev pub IsUncounted : ℕ → Option Ending → Type 0
 IsUncounted n None = n ≡ 0
 IsUncounted n (Some ending.Done) = n ≡ 0

@@ -1,5 +1,5 @@
 -- How a token of a run is given.
-use Rattle.std.specs.Prelude.{◌≡◌, ℕ, List, [], ◌∷◌, length}
+use Rattle.std.specs.Prelude.{◌≡◌, List, [], ◌∷◌, length}
 use Rattle.cr_base.specs.declared.token.PpTok.{PpTok}
 use Rattle.cr_macros.specs.Tokens.{Text, token_of}
 use Rattle.cr_preproc.specs.declared.progress.Progress.{Progress}

@@ -1,5 +1,5 @@
 -- What is left while an open file is worked on, and what a turn does.
-use Rattle.std.specs.Prelude.{◌≡◌, ◌≤◌, ◌+◌, ◌⊎◌, ℕ, suc, if◌then◌else◌, List, [], ◌∷◌, length, Option, Some, None, Result, Ok, Err}
+use Rattle.std.specs.Prelude.{◌≡◌, ◌≤◌, ◌+◌, ◌⊎◌, ℕ, suc, if◌then◌else◌, List, [], length, Option, Some, None, Result, Ok, Err}
 use Rattle.cr_base.specs.declared.cause.IllCause.TheVariants as cause
 use Rattle.cr_base.specs.declared.cause.Role.TheVariants.{Directive as InDirective}
 use Rattle.cr_base.specs.declared.unit.Unit.{Unit}
@@ -89,7 +89,8 @@ pub record IsWorking (files : List KnownFile) (p : Progress) (f : OpenFile) (d :
   pub line : length f.line.items + p.reading ≤ 33554432
   pub does : IsDoing p f d
 
--- How many steps a turn makes that ends a unit so: none; or one, where a rule was used that gave a token for which there is no room.
+-- How many steps the turn makes that ends a unit so: none; or one, where a rule was used that gave a token for which there is
+-- no room.
 abbrev pub IsLastTurn : ℕ → End → Type 0
 IsLastTurn n end = (n ≡ 0) ⊎ ((n ≡ 1) × (end ≡ Over Tokens))
 

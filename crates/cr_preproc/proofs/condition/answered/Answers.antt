@@ -1,5 +1,4 @@
 use Rattle.std.proofs.Common.{◌<◌, length, sym, subst}
-use Rattle.cr_base.specs.declared.token.Name.{Name}
 use Rattle.cr_preproc.proofs.Answered.{digit_known}
 use Rattle.cr_preproc.proofs.condition.answered.Goals as goal
 

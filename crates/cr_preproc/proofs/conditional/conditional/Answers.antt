@@ -1,9 +1,6 @@
-use Rattle.std.proofs.Common.{[], ap, subst, cond, sym, ◌∙◌}
-use Rattle.cr_base.specs.declared.cause.Role.TheVariants as role
+use Rattle.std.proofs.Common.{[], ap}
 use Rattle.cr_macros.specs.Tokens.{token_of, tokens_of}
-use Rattle.cr_preproc.specs.Conditionals.{conditional, is_word_live}
-use Rattle.cr_preproc.specs.Tasks.{Done, tell, marks}
-use Rattle.cr_preproc.proofs.Leadings.{tell_state}
+use Rattle.cr_preproc.specs.Conditionals.{is_word_live}
 use Rattle.cr_preproc.proofs.ConditionalSteps.{word_noted}
 use Rattle.cr_preproc.proofs.conditional.conditional.Goals as goal
 

@@ -1,6 +1,4 @@
-use Rattle.std.proofs.Common.{◌≡◌, ◌++◌, drop}
-use Rattle.std.specs.Prelude.{flat_map}
-use Rattle.cr_preproc.specs.Traces.{opaque_place}
+use Rattle.std.proofs.Common.{drop}
 use Rattle.cr_preproc.proofs.Expandings.{IsKeeping}
 use Rattle.cr_preproc.proofs.expansion.keep.Given as goal
 

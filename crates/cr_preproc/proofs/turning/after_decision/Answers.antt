@@ -1,4 +1,4 @@
-use Rattle.std.proofs.Common.{◌≡◌, ◌+◌, ◌≤◌, ℕ, [], List, length, Result, Ok, Err, Bool, refl, sym, ap, ◌∙◌, subst, arith}
+use Rattle.std.proofs.Common.{◌≡◌, ◌+◌, ◌≤◌, [], List, length, Result, Ok, Err, Bool, refl, sym, ap, ◌∙◌, subst, arith}
 use Rattle.cr_macros.specs.Tokens.{Text, tokens_of}
 use Rattle.cr_preproc.specs.declared.expansion.Fault.{Fault}
 use Rattle.cr_preproc.specs.declared.turning.Doing.TheVariants as doing

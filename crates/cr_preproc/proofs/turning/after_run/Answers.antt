@@ -1,10 +1,7 @@
-use Rattle.std.proofs.Common.{◌≡◌, ap, sym, ◌∙◌, subst, refl, inl}
+use Rattle.std.proofs.Common.{sym, ◌∙◌, subst, refl, inl}
 use Rattle.std.specs.Prelude.{[]}
 use Rattle.cr_macros.specs.Tokens.{tokens_of}
-use Rattle.cr_preproc.specs.declared.turning.Then.{Then}
-use Rattle.cr_preproc.specs.declared.turning.Then.TheVariants as then
 use Rattle.cr_preproc.specs.declared.turning.Doing.TheVariants as doing
-use Rattle.cr_preproc.specs.declared.progress.Progress.{Progress}
 use Rattle.cr_preproc.specs.Tasks.{Task, Nothing, Goes, Done, ◌>>>◌}
 use Rattle.cr_preproc.specs.Lines.{line_of}
 use Rattle.cr_preproc.specs.Search.{world_of}

@@ -1,5 +1,5 @@
-use Rattle.std.proofs.Common.{◌≡◌, ◌+◌, ◌≤◌, ◌++◌, ℕ, [], ◌∷◌, List, length, map, refl, sym, ap, ◌∙◌, subst, arith, append-nil}
-use Rattle.cr_macros.specs.Tokens.{Text, Token, token_of, tokens_of}
+use Rattle.std.proofs.Common.{◌≡◌, ◌+◌, ◌≤◌, ◌++◌, [], ◌∷◌, List, length, map, sym, ap, ◌∙◌, subst, arith, append-nil}
+use Rattle.cr_macros.specs.Tokens.{Token, token_of, tokens_of}
 use Rattle.cr_expand.specs.Expanders.{plain}
 use Rattle.cr_preproc.specs.declared.progress.Progress.{Progress}
 use Rattle.cr_preproc.specs.declared.expansion.Use.{Use}

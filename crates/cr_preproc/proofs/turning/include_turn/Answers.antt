@@ -1,4 +1,4 @@
-use Rattle.std.proofs.Common.{◌≡◌, ◌∙◌, List, [], ap, sym, subst, refl, inl}
+use Rattle.std.proofs.Common.{◌∙◌, List, [], ap, sym, subst, refl, inl}
 use Rattle.cr_base.specs.declared.token.PpTok.{PpTok}
 use Rattle.cr_macros.specs.Tokens.{tokens_of}
 use Rattle.cr_preproc.specs.Tasks.{Task, Nothing, Ends}

@@ -8,9 +8,8 @@ use Rattle.cr_preproc.specs.Search.{world_of, search}
 use Rattle.cr_preproc.specs.Directives.{Opening, opens}
 use Rattle.cr_preproc.specs.Preprocessing.{does_file}
 use Rattle.cr_preproc.specs.OpenFiles.{reads_file, reading_of}
-use Rattle.cr_preproc.specs.Progressing.{state_of}
 use Rattle.cr_preproc.specs.Seen.{seen_search}
-use Rattle.cr_preproc.specs.Turning.{enters, IsOpened, IsTurned}
+use Rattle.cr_preproc.specs.Turning.{IsOpened, IsTurned}
 use Rattle.cr_preproc.proofs.Openings.{enters_sub, wants_none, looked}
 use Rattle.cr_preproc.proofs.Falls.{empty_below, looked_falls}
 use Rattle.cr_preproc.proofs.turning.look_turn.Goals as goal

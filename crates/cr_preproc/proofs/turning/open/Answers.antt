@@ -1,4 +1,4 @@
-use Rattle.std.proofs.Common.{◌≡◌, ℕ, false, true, sym, ap, ◌∙◌}
+use Rattle.std.proofs.Common.{◌≡◌, false, sym, ap, ◌∙◌}
 use Rattle.cr_macros.specs.Tokens.{has}
 use Rattle.cr_preproc.specs.Lines as lines
 use Rattle.cr_preproc.specs.Directives.{Opening}

@@ -1,5 +1,4 @@
-use Rattle.std.proofs.Common.{◌≡◌, refl, sym, ap, subst, ◌∙◌}
-use Rattle.cr_macros.specs.Tokens.{tokens_of}
+use Rattle.std.proofs.Common.{refl, sym, subst, ◌∙◌}
 use Rattle.cr_preproc.specs.declared.turning.Then.TheVariants as then
 use Rattle.cr_preproc.specs.OpenFiles.{reading_of}
 use Rattle.cr_preproc.specs.OpenFileSteps.{TellsLine, TellsNext}

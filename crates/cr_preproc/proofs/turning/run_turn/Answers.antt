@@ -1,4 +1,4 @@
-use Rattle.std.proofs.Common.{◌≡◌, ◌≤◌, [], ap, sym, ◌∙◌, subst, refl, inl}
+use Rattle.std.proofs.Common.{◌≤◌, [], ap, sym, ◌∙◌, subst, refl, inl}
 use Rattle.cr_expand.specs.declared.machine.TheConstants.{LIMIT}
 use Rattle.cr_preproc.specs.declared.expansion.Use.TheVariants as use1
 use Rattle.cr_preproc.specs.declared.turning.Doing.TheVariants as doing

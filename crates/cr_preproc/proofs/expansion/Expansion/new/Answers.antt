@@ -1,4 +1,4 @@
-use Rattle.std.proofs.Common.{◌≡◌, ◌≤◌, ◌-◌, [], ◌++◌, refl, sym, ap, ◌∙◌, subst, append-nil}
+use Rattle.std.proofs.Common.{◌≤◌, ◌-◌, [], ◌++◌, sym, ap, ◌∙◌, subst, append-nil}
 use Rattle.cr_macros.specs.Definition.{text_of}
 use Rattle.cr_macros.specs.Expansion.{expand}
 use Rattle.cr_macros.specs.MacroTables.{table_of}

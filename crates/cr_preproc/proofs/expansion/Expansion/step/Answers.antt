@@ -1,11 +1,9 @@
-use Rattle.std.proofs.Common.{◌≡◌, ◌≤◌, ◌++◌, ◌-◌, [], List, length, None, drop, refl, sym, ap, ◌∙◌, subst}
-use Rattle.cr_macros.specs.declared.macros.Seen.{Seen}
+use Rattle.std.proofs.Common.{◌≡◌, ◌++◌, ◌-◌, [], length, None, drop, refl, sym, ap, ◌∙◌, subst}
 use Rattle.cr_expand.specs.Held.{noted, watch_of}
 use Rattle.cr_expand.specs.Machines.{IsAhead, IsStep, IsOutKnown}
 use Rattle.cr_expand.specs.declared.machine.ExpStep.TheVariants as step
 use Rattle.cr_expand.specs.declared.machine.TheConstants.{LIMIT}
 use Rattle.cr_macros.specs.Tokens.{Gave}
-use Rattle.cr_preproc.specs.Expanding.{IsKept}
 use Rattle.cr_preproc.specs.Progressing.{IsProgress}
 use Rattle.cr_preproc.proofs.NamesGrow.{known_later}
 use Rattle.cr_preproc.proofs.Expandings.{noted_more, progress_more, expanding_more, distinct_of, seen_behind, seen_longer, keeps_nothing, stops_at}

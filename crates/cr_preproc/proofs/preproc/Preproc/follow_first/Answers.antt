@@ -1,4 +1,4 @@
-use Rattle.std.proofs.Common.{◌≡◌, sym, ap, subst, refl, Some, None}
+use Rattle.std.proofs.Common.{sym, subst, refl, Some, None}
 use Rattle.cr_preproc.specs.declared.preproc.Ending.TheVariants as ending
 use Rattle.cr_preproc.specs.Search.{world_of}
 use Rattle.cr_preproc.specs.Preprocessing.{does_first_file}

@@ -1,4 +1,4 @@
-use Rattle.std.proofs.Common.{◌≡◌, subst, Some, None}
+use Rattle.std.proofs.Common.{subst}
 use Rattle.cr_preproc.specs.Falling.{TurnFalls}
 use Rattle.cr_preproc.specs.Preprocs.{IsTurn}
 use Rattle.cr_preproc.proofs.UnitSteps.{silent_turn, ends_answer, turn_answer, going_is}

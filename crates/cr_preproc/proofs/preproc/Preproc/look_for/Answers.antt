@@ -1,5 +1,4 @@
-use Rattle.std.proofs.Common.{◌≡◌, ◌-◌, [], ◌∷◌, ◌++◌, List, refl, sym, ap, subst, ◌∙◌, Some, None}
-use Rattle.cr_macros.specs.Tokens.{Text}
+use Rattle.std.proofs.Common.{◌≡◌, [], ◌∷◌, ◌++◌, refl, sym, ap, subst, ◌∙◌}
 use Rattle.cr_snapshot.specs.Files.{finding}
 use Rattle.cr_preproc.specs.Tasks.{Needs, Ends}
 use Rattle.cr_preproc.specs.Search.{world_of, search}

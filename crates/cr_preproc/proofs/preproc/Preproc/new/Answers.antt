@@ -1,4 +1,4 @@
-use Rattle.std.proofs.Common.{◌≡◌, refl, sym, ap, ◌∙◌, None}
+use Rattle.std.proofs.Common.{refl, None}
 use Rattle.cr_preproc.specs.declared.preproc.Firsts.TheVariants as firsts
 use Rattle.cr_preproc.specs.declared.turning.Doing.TheVariants as doing
 use Rattle.cr_preproc.proofs.FirstTurns.{fresh_left}

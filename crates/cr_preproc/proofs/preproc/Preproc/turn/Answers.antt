@@ -1,4 +1,4 @@
-use Rattle.std.proofs.Common.{◌≡◌, refl, sym, ap}
+use Rattle.std.proofs.Common.{refl}
 use Rattle.cr_preproc.proofs.UnitSteps.{working_is}
 use Rattle.cr_preproc.proofs.preproc.Preproc.turn.Goals as goal
 

@@ -1,0 +1,5 @@
+//! Worked examples that cross crates.
+#![tactic(auto)]
+
+#[cfg(test)]
+mod tests;
