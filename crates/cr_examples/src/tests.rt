@@ -226,7 +226,7 @@ fn chained(alloc: Global, levels: u32) -> Result<Vec<u8>, OutOfMemory> {
 #[test]
 fn a_unit_is_preprocessed_as_defined(rt: HostRuntime) -> Result<(), Fail> {
     let alloc = rt.alloc();
-    for cases in &[RUNS, CONDITIONALS, INCLUDES] {
+    for cases in &[RUNS, LINES, CONDITIONALS, INCLUDES, HEADERS] {
         for (files, wanted) in *cases {
             let found = preprocessed(alloc, b"", files)?;
             assert!(rt; found.as_slice() == *wanted, "{wanted:?} {found:?}");
@@ -375,6 +375,16 @@ const RUNS: &[(Files, &[u8])] = &[
     ),
 ];
 
+// What a line is, by its first two tokens.
+const LINES: &[(Files, &[u8])] = &[
+    (&[(b"a.c", b"x # if\n")], b"x@0 #@2 if@4 "),
+    (&[(b"a.c", b" # elif 1\n")], b"StrayElse@1 "),
+    (&[(b"a.c", b"%:ifdef X\n")], b"OpenIf@0 "),
+    (&[(b"a.c", b"#ifx\n")], b"BadDirective@0 "),
+    (&[(b"a.c", b"#\nx\n")], b"x@2 "),
+    (&[(b"a.c", b"# 33 \"x\"\n")], b"BadDirective@0 "),
+];
+
 // Which lines conditionals choose, and what is wrong with them.
 const CONDITIONALS: &[(Files, &[u8])] = &[
     (
@@ -510,6 +520,31 @@ const INCLUDES: &[(Files, &[u8])] = &[
         b"needs v.h ",
     ),
     (&[(b"a.c", b"#include <v.h>\n")], b"needs inc/v.h sys/v.h "),
+];
+
+// What names a header, and at which paths it is looked for.
+const HEADERS: &[(Files, &[u8])] = &[
+    (
+        &[(b"a.c", b"#include \"x.h\"\n")],
+        b"needs x.h inc/x.h sys/x.h ",
+    ),
+    (
+        &[(b"a.c", b"#include \"a\\b.h\"\n")],
+        b"needs a\\b.h inc/a\\b.h sys/a\\b.h ",
+    ),
+    (
+        &[(b"a.c", b"#include <sys/x.h>\n")],
+        b"needs inc/sys/x.h sys/sys/x.h ",
+    ),
+    (
+        &[(b"a.c", b"#include < x.h >\n")],
+        b"needs inc/ x.h  sys/ x.h  ",
+    ),
+    (&[(b"a.c", b"#include <>\n")], b"needs inc sys "),
+    (&[(b"a.c", b"#include L\"x.h\"\n")], b"BadDirective@0 "),
+    (&[(b"a.c", b"#include \"x.h\" y\n")], b"BadDirective@0 "),
+    (&[(b"a.c", b"#include <a->\n")], b"BadDirective@0 "),
+    (&[(b"a.c", b"#include <a//b>\n")], b"BadDirective@0 "),
 ];
 
 // Units whose command words are not empty: the text of these comes before the main file.

@@ -8,7 +8,7 @@ use Rattle.cr_macros.specs.Definition.{text_of}
 use Rattle.cr_preproc.specs.Seen.{AreNamed}
 use Rattle.cr_base.specs.declared.token.PpTok.{PpTok}
 use Rattle.cr_macros.specs.Tokens.{Text, Token, token_of, tokens_of}
-use Rattle.cr_preproc.specs.Conditionals.{pieces}
+use Rattle.cr_phase4.specs.Conditionals.{pieces}
 
 at_index : (names : List Text) (tokens : List PpTok) (i : ℕ) (d : PpTok) → i < length tokens → tokens_of names (drop i tokens) ≡ token_of names [] (get_or tokens i d) ∷ tokens_of names (drop (i + 1) tokens)
 at_index names tokens i d h = ap (tokens_of names) (drop-cons tokens i d h ∙ ap (λ n. get_or tokens i d ∷ drop n tokens) (sym (add-one i)))

@@ -16,8 +16,8 @@ use Rattle.cr_macros.specs.Substitution.{one_more, index_of, param, next_param}
 use Rattle.cr_macros.specs.Definition as number
 use Rattle.cr_macros.specs.Definition.{text_of, has_name, is_kept_word}
 use Rattle.cr_macros.specs.MacroTables.{macro_text}
-use Rattle.cr_preproc.specs.Definition as text
-use Rattle.cr_preproc.specs.Definition.{Definition}
+use Rattle.cr_phase4.specs.Definition as text
+use Rattle.cr_phase4.specs.Definition.{Definition}
 use Rattle.cr_preproc.specs.Seen.{IsNamed, AreNamed, IsSameDefinition}
 
 -- two names of a table have one text only where they are one

@@ -18,22 +18,21 @@ use Rattle.cr_preproc.specs.OpenIfs.{by_elif}
 use Rattle.cr_preproc.specs.declared.conditional.Led.{Led}
 use Rattle.cr_preproc.specs.declared.conditional.Led.TheVariants as led
 use Rattle.cr_preproc.specs.declared.expansion.Fault.{Fault}
-use Rattle.cr_preproc.specs.declared.line.Word.{Word}
-use Rattle.cr_preproc.specs.declared.line.Word.TheVariants.{If, Ifdef, Ifndef}
-use Rattle.cr_preproc.specs.declared.open_ifs.OpenIf.{OpenIf}
+use Rattle.cr_phase4.specs.declared.conditionals.Word.{Word}
+use Rattle.cr_phase4.specs.declared.conditionals.Word.TheVariants.{If, Ifdef, Ifndef}
+use Rattle.cr_phase4.specs.declared.conditionals.OpenIf.{OpenIf}
 use Rattle.cr_preproc.specs.declared.progress.Progress.{Progress}
 use Rattle.cr_preproc.specs.declared.trace.Trace.{Trace as KeptTrace}
-use Rattle.cr_preproc.specs.Tasks.{Ill, Event, State, Reply, Goes, Ends, Task, Nothing, Done, behind, go_on, ◌>>>◌, only, ends, tell, look, marks, in_directive}
-use Rattle.cr_preproc.specs.Runs.{expands}
-use Rattle.cr_preproc.specs.Conditionals.{group_if, opened, is_live, is_macro, Piece, Other, Asks, pieces, answered, asking, condition, is_true, list_value, is_named, begun, elif, conditional}
+use Rattle.cr_phase4.specs.Tasks.{Ill, Event, State, Reply, Goes, Ends, Task, Nothing, Done, behind, go_on, ◌>>>◌, only, ends, tell, look, marks, in_directive}
+use Rattle.cr_phase4.specs.Runs.{expands}
+use Rattle.cr_phase4.specs.Conditionals.{group_if, opened, is_live, is_macro, Piece, Other, Asks, pieces, answered, asking, condition, is_true, list_value, is_named, begun, elif, conditional}
 use Rattle.cr_preproc.specs.Seen.{AreNamed, macros_of, answered_list}
-use Rattle.cr_preproc.specs.Traces.{all_events_seen}
+use Rattle.cr_phase4.specs.Traces.{all_events_seen}
 use Rattle.cr_preproc.specs.Expanding.{end_by}
 use Rattle.cr_preproc.specs.Progressing.{state_of, kept, IsProgress, IsSeen, IsNotOpaque, IsTold, Did}
 use Rattle.cr_preproc.specs.Leading.{Leads, IsLed, chosen, decided}
 use Rattle.cr_preproc.proofs.Frames.{behind_then, then_assoc}
-use Rattle.cr_preproc.proofs.NamesGrow.{tokens_later}
-use Rattle.cr_preproc.proofs.TextsKept.{grows_none, grows_both}
+use Rattle.cr_preproc.proofs.NamesGrow.{tokens_later, grows_none, grows_more}
 use Rattle.cr_preproc.proofs.Progresses.{joined_none, AreTaking, taking_both, taking_marks}
 use Rattle.cr_preproc.proofs.Notings.{seen_did}
 use Rattle.cr_preproc.proofs.Expandings.{more, state_more}
@@ -170,7 +169,7 @@ grows_text names text = go (list_any (bytes_eq text) names) where
 pub grows_digits : (names new : List Text) → new ≡ with_text (with_text names (codes "0")) (codes "1") → Grows names new
 grows_digits names new e =
     subst (λ n. Grows names n) (sym e)
-    (grows_both names (with_text names (codes "0")) (with_text (with_text names (codes "0")) (codes "1")) (grows_text names (codes "0")) (grows_text (with_text names (codes "0")) (codes "1")))
+    (grows_more names (with_text names (codes "0")) (with_text (with_text names (codes "0")) (codes "1")) (grows_text names (codes "0")) (grows_text (with_text names (codes "0")) (codes "1")))
 
 pub asked_led : (p : Progress) (names : List Text) (trace : KeptTrace) (list made : List PpTok) (path : Text) (hash : Place) (d : Decision) (cs : List OpenIf)
     → KeepsMacros → IsProgress p → AreNamed p.names list → Grows p.names names

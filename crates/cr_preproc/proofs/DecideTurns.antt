@@ -13,9 +13,9 @@ use Rattle.cr_preproc.specs.declared.expansion.Use.TheVariants as use1
 use Rattle.cr_preproc.specs.declared.open_file.OpenFile.{OpenFile}
 use Rattle.cr_preproc.specs.declared.progress.Progress.{Progress}
 use Rattle.cr_preproc.specs.declared.turning.Doing.{Doing}
-use Rattle.cr_preproc.specs.Tasks.{End, State, Reply, Ends, Task, Nothing, go_on, at_place, moved, events_of}
-use Rattle.cr_preproc.specs.Search.{World}
-use Rattle.cr_preproc.specs.Runs.{runs, earlier}
+use Rattle.cr_phase4.specs.Tasks.{End, State, Reply, Ends, Task, Nothing, go_on, at_place, moved, events_of}
+use Rattle.cr_phase4.specs.Search.{World}
+use Rattle.cr_phase4.specs.Runs.{runs, earlier}
 use Rattle.cr_preproc.specs.OpenFiles.{Reading, reading_of}
 use Rattle.cr_preproc.specs.Progressing.{state_of, IsTold}
 use Rattle.cr_preproc.specs.Expanding.{IsUsed, StopsAt, still_in, end_by}

@@ -6,8 +6,8 @@ use Rattle.cr_macros.specs.Tokens.{Text, Token, MacroText, Answer, Gave, Stopped
 use Rattle.cr_macros.specs.Substitution.{Args}
 use Rattle.cr_macros.specs.Expansion.{Table, Use, Keep, Predefined, Object, Call, Wrong, predefined, found_after, closed_by, to_close, arguments, counted_call, closed_call, call_of, use_by_params, use_of_macro, use_of_name, use_of}
 use Rattle.cr_macros.specs.Uses.{put_for, is_given, left_behind}
-use Rattle.cr_preproc.specs.Tasks.{Tokens, Told, Final, Over, State, Goes, Ends, Task, Nothing, Done, behind, go_on, from_answer}
-use Rattle.cr_preproc.specs.Runs.{run_on, run_by, runs_within, run_in, FollowsTheRules}
+use Rattle.cr_phase4.specs.Tasks.{Tokens, Told, Final, Over, State, Goes, Ends, Task, Nothing, Done, behind, go_on, from_answer}
+use Rattle.cr_phase4.specs.Runs.{run_on, run_by, runs_within, run_in, FollowsTheRules}
 use Rattle.cr_preproc.proofs.Leaving.{Pays, put_pays}
 
 -- what comes behind a use is no longer than what came behind its head

@@ -17,11 +17,11 @@ use Rattle.cr_macros.specs.Substitution.{param}
 use Rattle.cr_macros.specs.Tokens.{Text, Token, MacroText, token_of, tokens_of}
 use Rattle.cr_expand.specs.Machines.{AreMacros}
 use Rattle.cr_preproc.specs.declared.progress.Progress.{Progress}
-use Rattle.cr_preproc.specs.Tasks.{Event, Defined, Goes, Done, behind, tell, change, marks}
-use Rattle.cr_preproc.specs.Definition.{Definition, definition, is_free_name, is_rest, if_good, is_good, macro_of, parameters_of}
-use Rattle.cr_preproc.specs.Directives.{all_marks, parameter_marks, definition_marks, with_macro, defines, undefines}
-use Rattle.cr_preproc.specs.PreprocessingRun.{steps, final_tokens}
-use Rattle.cr_preproc.specs.Traces.{seen_of, all_events_seen, new_macros_of, body_params_of, opaque_place}
+use Rattle.cr_phase4.specs.Tasks.{Event, Defined, Goes, Done, behind, tell, change, marks}
+use Rattle.cr_phase4.specs.Definition.{Definition, definition, is_free_name, is_rest, if_good, is_good, macro_of, parameters_of}
+use Rattle.cr_phase4.specs.Directives.{all_marks, parameter_marks, definition_marks, with_macro, defines, undefines}
+use Rattle.cr_phase4.specs.PreprocessingRun.{steps, final_tokens}
+use Rattle.cr_phase4.specs.Traces.{seen_of, all_events_seen, new_macros_of, body_params_of, opaque_place}
 use Rattle.cr_preproc.specs.Seen.{AreNamed, AreMacrosNamed, macros_of, SetsText}
 use Rattle.cr_preproc.specs.Progressing.{state_of, kept, IsProgress, IsTraced, IsNotOpaque, definition_of, definition_events, Did}
 use Rattle.cr_preproc.proofs.MacroNames.{lookup_same}

@@ -8,9 +8,9 @@ use Rattle.cr_preproc.specs.declared.directing.Directed.{Directed}
 use Rattle.cr_preproc.specs.declared.directing.Directed.TheVariants as directed
 use Rattle.cr_preproc.specs.declared.directive.Order.{Order}
 use Rattle.cr_preproc.specs.declared.progress.Progress.{Progress}
-use Rattle.cr_preproc.specs.Tasks.{Task, Nothing, Done, ◌>>>◌, tell, marks}
-use Rattle.cr_preproc.specs.Search.{World}
-use Rattle.cr_preproc.specs.Directives as spec
+use Rattle.cr_phase4.specs.Tasks.{Task, Nothing, Done, ◌>>>◌, tell, marks}
+use Rattle.cr_phase4.specs.Search.{World}
+use Rattle.cr_phase4.specs.Directives as spec
 use Rattle.cr_preproc.specs.Words.{IsWord, by_order}
 use Rattle.cr_preproc.specs.Progressing.{IsProgress, Did}
 use Rattle.cr_preproc.specs.Leading.{IsDirected}

@@ -22,13 +22,13 @@ use Rattle.cr_preproc.specs.declared.open_file.OpenFile.{OpenFile}
 use Rattle.cr_preproc.specs.declared.progress.Progress.{Progress}
 use Rattle.cr_preproc.specs.declared.turning.Doing.{Doing}
 use Rattle.cr_preproc.specs.declared.turning.Doing.TheVariants as doing
-use Rattle.cr_preproc.specs.Tasks.{Reply, Goes, Ends, Task, Nothing, Done, go_on, ◌>>>◌, tell, marks, from_answer, at_place, in_directive}
-use Rattle.cr_preproc.specs.declared.line.Word.{Word}
-use Rattle.cr_preproc.specs.Lines.{Line, Plain, Conditional, Directive, Empty}
-use Rattle.cr_preproc.specs.Runs.{expands}
-use Rattle.cr_preproc.specs.Directives.{opens, directive}
-use Rattle.cr_preproc.specs.Preprocessing.{does_file}
-use Rattle.cr_preproc.specs.Search.{World}
+use Rattle.cr_phase4.specs.Tasks.{Reply, Goes, Ends, Task, Nothing, Done, go_on, ◌>>>◌, tell, marks, from_answer, at_place, in_directive}
+use Rattle.cr_phase4.specs.declared.conditionals.Word.{Word}
+use Rattle.cr_phase4.specs.Lines.{Line, Plain, Conditional, Directive, Empty}
+use Rattle.cr_phase4.specs.Runs.{expands}
+use Rattle.cr_phase4.specs.Directives.{opens, directive}
+use Rattle.cr_phase4.specs.Preprocessing.{does_file}
+use Rattle.cr_phase4.specs.Search.{World}
 use Rattle.cr_preproc.specs.OpenFiles.{Reading, reading_of, reads_file, IsOpen}
 use Rattle.cr_preproc.specs.Progressing.{state_of, IsProgress}
 use Rattle.cr_preproc.specs.Seen.{AreNamed}
@@ -91,6 +91,7 @@ module _ (w : World) (u : Unit) (files : List KnownFile) (p q : Progress) (f g :
   looks_leads x paths site (doing.Expands e next) look h k = absurd look
   looks_leads x paths site (doing.Decides e given d hash) look h k = absurd look
   looks_leads x paths site (doing.Includes e given hash) look h k = absurd look
+  looks_leads x paths site (doing.Fails fault) look h k = absurd look
 
   pub looks_does : (paths : List Text) (site : Place) (d : Doing) → LooksAt paths site d → IsDoing q g d
   looks_does paths site (doing.Looks found at) look = ended.line
@@ -98,6 +99,7 @@ module _ (w : World) (u : Unit) (files : List KnownFile) (p q : Progress) (f g :
   looks_does paths site (doing.Expands e next) look = absurd look
   looks_does paths site (doing.Decides e given d hash) look = absurd look
   looks_does paths site (doing.Includes e given hash) look = absurd look
+  looks_does paths site (doing.Fails fault) look = absurd look
 
 -- a line that is no directive leaves the file as it is
 pub plain_leads : (w : World) (u : Unit) (files : List KnownFile) (p : Progress) (f g : OpenFile) → IsEnded f g → (k : Task Nothing)

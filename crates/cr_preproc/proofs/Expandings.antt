@@ -23,10 +23,10 @@ use Rattle.cr_expand.specs.declared.machine.TheConstants.{LIMIT}
 use Rattle.cr_preproc.specs.declared.progress.Progress.{Progress}
 use Rattle.cr_preproc.specs.declared.progress.TheConstants.{MOST_TOKENS}
 use Rattle.cr_preproc.specs.declared.trace.Trace.{Trace as KeptTrace}
-use Rattle.cr_preproc.specs.Tasks.{Told, State, end_of}
-use Rattle.cr_preproc.specs.PreprocessingRun.{final_tokens}
+use Rattle.cr_phase4.specs.Tasks.{Told, State, end_of}
+use Rattle.cr_phase4.specs.PreprocessingRun.{final_tokens}
 use Rattle.cr_base.specs.declared.token.Place.{Place}
-use Rattle.cr_preproc.specs.Traces.{Trace, all_events_seen, new_macros_of, body_params_of, opaque_place}
+use Rattle.cr_phase4.specs.Traces.{Trace, all_events_seen, new_macros_of, body_params_of, opaque_place}
 use Rattle.cr_preproc.specs.Seen.{AreNamed, AreMacrosNamed}
 use Rattle.cr_preproc.specs.Progressing.{state_of, IsProgress}
 use Rattle.cr_preproc.specs.declared.expansion.Expansion.{Expansion}

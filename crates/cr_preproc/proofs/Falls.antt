@@ -9,8 +9,8 @@ use Rattle.cr_base.specs.declared.unit.Unit.{Unit}
 use Rattle.cr_base.specs.declared.cause.Role.TheVariants.{Directive}
 use Rattle.cr_macros.specs.Tokens.{Text, Token}
 use Rattle.cr_preproc.specs.declared.conditional.Led.{Led}
-use Rattle.cr_preproc.specs.declared.line.Word.{Word}
-use Rattle.cr_preproc.specs.declared.open_ifs.OpenIf.{OpenIf}
+use Rattle.cr_phase4.specs.declared.conditionals.Word.{Word}
+use Rattle.cr_phase4.specs.declared.conditionals.OpenIf.{OpenIf}
 use Rattle.cr_preproc.specs.declared.open_file.OpenFile.{OpenFile}
 use Rattle.cr_preproc.specs.declared.preproc.Ending.{Ending}
 use Rattle.cr_preproc.specs.declared.preproc.Firsts.{Firsts}
@@ -24,10 +24,10 @@ use Rattle.cr_preproc.specs.declared.turning.Then.TheVariants as then
 use Rattle.cr_preproc.specs.declared.turning.Turned.{Turned}
 use Rattle.cr_preproc.specs.declared.turning.Turned.TheVariants as turned
 use Rattle.cr_preproc.specs.OpenFileSteps.{is_empty, has_line}
-use Rattle.cr_preproc.specs.Conditionals.{is_word_live}
+use Rattle.cr_phase4.specs.Conditionals.{is_word_live}
 use Rattle.cr_preproc.specs.Leading.{IsLed}
 use Rattle.cr_preproc.specs.RunTurns.{IsGiving}
-use Rattle.cr_preproc.specs.Tasks.{marks}
+use Rattle.cr_phase4.specs.Tasks.{marks}
 use Rattle.cr_preproc.specs.Turning.{LooksAt}
 use Rattle.cr_preproc.proofs.LineTurns.{word_does, led_reads}
 use Rattle.cr_preproc.proofs.ReadingKept.{keeps_word}
@@ -49,6 +49,7 @@ rank_most f (doing.Expands e next) = then_most next
 rank_most f (doing.Decides e given d hash) = omega arith
 rank_most f (doing.Includes e given hash) = omega arith
 rank_most f (doing.Looks paths site) = omega arith
+rank_most f (doing.Fails fault) = omega arith
 
 pub rank_below : (f : OpenFile) (d : Doing) (n m : ℕ) → n < m → rank f d ≡ n → rank f d < m
 rank_below f d n m h e = omega (arith, h, e)
@@ -82,15 +83,6 @@ looked_falls p q f d e turned.Steps h r = tt
 looked_falls p q f d e (turned.Needs paths) h r = tt
 looked_falls p q f d e (turned.Ends fault) h r = tt
 
--- a token was given
-pub given_falls : (p q u v : Progress) (t : PpTok) (f g : OpenFile) (d e : Doing) (to : Turned) → IsGiving p q t to → Falls u v f g d e to
-given_falls p q u v t f g d e turned.Steps h = tt
-given_falls p q u v t f g d e (turned.Ends fault) h = tt
-given_falls p q u v t f g d e turned.Goes h = absurd h
-given_falls p q u v t f g d e turned.Closes h = absurd h
-given_falls p q u v t f g d e (turned.Opens o) h = absurd h
-given_falls p q u v t f g d e (turned.Needs paths) h = absurd h
-
 -- behind a directive the file is read on, or a file is looked for
 pub below_reads : (n : ℕ) → 2 < n → IsBelow n (Ok doing.Reads)
 below_reads n h = λ g none. empty_below g doing.Reads n h none refl
@@ -101,6 +93,7 @@ below_looks paths site doing.Reads n h is = absurd is
 below_looks paths site (doing.Expands e next) n h is = absurd is
 below_looks paths site (doing.Decides e given d hash) n h is = absurd is
 below_looks paths site (doing.Includes e given hash) n h is = absurd is
+below_looks paths site (doing.Fails fault) n h is = absurd is
 
 -- a conditional directive reads nothing
 pub conditional_reads : (path : Text) (p q : Progress) (hash : Place) (cs ds : List OpenIf) (t : Token) (word : Word) (ts : List Token) (l : Led) → IsLed path hash p q cs ds (word_does path hash t word ts cs) l → q.reading ≡ p.reading

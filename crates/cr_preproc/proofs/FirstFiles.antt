@@ -7,11 +7,11 @@ use Rattle.cr_base.specs.declared.unit.Unit.{Unit}
 use Rattle.cr_macros.specs.Tokens.{Text}
 use Rattle.cr_snapshot.specs.declared.known.KnownFile.{KnownFile}
 use Rattle.cr_snapshot.specs.Files.{Finding, Present, Absent, Unknown, told, finding, finding_from}
-use Rattle.cr_preproc.specs.Tasks.{Needs, State, Ends}
-use Rattle.cr_preproc.specs.Lines.{place_in}
-use Rattle.cr_preproc.specs.Search.{Finds, Misses, Lacks, number_among, world_of}
-use Rattle.cr_preproc.specs.Directives.{looks}
-use Rattle.cr_preproc.specs.Preprocessing.{does_first_file, does_file, levels}
+use Rattle.cr_phase4.specs.Tasks.{Needs, State, Ends}
+use Rattle.cr_phase4.specs.Lines.{place_in}
+use Rattle.cr_phase4.specs.Search.{Finds, Misses, Lacks, number_among, world_of}
+use Rattle.cr_phase4.specs.Directives.{looks}
+use Rattle.cr_phase4.specs.Preprocessing.{does_first_file, does_file, levels}
 
 -- the place among files, or their number
 abbrev place : Text → List KnownFile → ℕ

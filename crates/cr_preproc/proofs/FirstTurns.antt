@@ -17,15 +17,15 @@ use Rattle.cr_preproc.specs.declared.preproc.Preproc.{Preproc}
 use Rattle.cr_preproc.specs.declared.turning.Doing.{Doing}
 use Rattle.cr_preproc.specs.declared.turning.Doing.TheVariants as doing
 use Rattle.cr_preproc.specs.declared.turning.Turned.TheVariants as turned
-use Rattle.cr_preproc.specs.Tasks.{State, Reply, Goes, Ends, Task, Nothing, Done, go_on, ◌>>>◌, ready}
-use Rattle.cr_preproc.specs.Search.{World, world_of}
-use Rattle.cr_preproc.specs.Preprocessing.{does_first_file, preprocessed, at_first}
+use Rattle.cr_phase4.specs.Tasks.{State, Reply, Goes, Ends, Task, Nothing, Done, go_on, ◌>>>◌, ready}
+use Rattle.cr_phase4.specs.Search.{World, world_of}
+use Rattle.cr_phase4.specs.Preprocessing.{does_first_file, preprocessed, at_first}
 use Rattle.cr_preproc.specs.OpenFiles.{reads_file, reading_of}
 use Rattle.cr_preproc.specs.Progressing.{state_of}
 use Rattle.cr_preproc.specs.Turning.{doing_left, IsDoing, IsOpened}
-use Rattle.cr_preproc.specs.Preprocs.{firsts_left, files_left, going_left, left_by, left_of, IsOuter, AreOpen, IsGoing, IsPreproc, IsSameUnit, TurnLeads, path_of, next_of}
+use Rattle.cr_preproc.specs.Preprocs.{firsts_left, files_left, going_left, left_by, left_of, IsOuter, AreOpen, IsGoing, IsSound, IsSameUnit, TurnLeads, path_of, next_of}
 use Rattle.cr_preproc.proofs.Leadings.{behind_none, leads_from, leads_to, leads_go}
-use Rattle.cr_preproc.proofs.UnitTurns.{left_going, good_going, good_none, uncounted}
+use Rattle.cr_preproc.proofs.UnitTurns.{left_going, good_going, good_none}
 
 then_ready : (r : Reply Nothing) → go_on r (λ d. ready) ≡ r
 then_ready (Goes Done s es) = ap (Goes Done s) (append-nil es)
@@ -51,7 +51,7 @@ fresh_left files p u e h f k s =
     left_first files p e h ∙ ap (λ x. firsts_left (world_of files) p.unit x (state_of p.progress)) f ∙ ap (λ x. firsts_left (world_of files) x firsts.Words (state_of p.progress)) k
     ∙ ap (firsts_left (world_of files) u firsts.Words) s
 
-module _ (files : List KnownFile) (p q : Preproc) (path : Text) (same : IsSameUnit p q) (pf : p.file ≡ None) (qf : q.file ≡ None) (pd : p.doing ≡ q.doing) (good : IsPreproc files p) (first : path_of p.unit p.firsts ≡ Some path) where
+module _ (files : List KnownFile) (p q : Preproc) (path : Text) (same : IsSameUnit p q) (pf : p.file ≡ None) (qf : q.file ≡ None) (pd : p.doing ≡ q.doing) (good : IsSound files p) (first : path_of p.unit p.firsts ≡ Some path) where
   abbrev W : World
   W = world_of files
 
@@ -84,14 +84,14 @@ module _ (files : List KnownFile) (p q : Preproc) (path : Text) (same : IsSameUn
     equal a b c d e f g h = cc
 
   pub first_ends : (fault : Fault) → IsOpened W p.unit files p.progress q.progress M (turned.Ends fault) → TurnLeads files p (record q { ending = Some (ending.Ill fault) }) None
-  first_ends fault t = (0, inl refl, leads_from 0 p.progress q.progress _ _ _ left_p (leads_go 0 p.progress q.progress _ _ (λ d. K) t.0), t.1)
+  first_ends fault t = (leads_from 0 p.progress q.progress _ _ _ left_p (leads_go 0 p.progress q.progress _ _ (λ d. K) t.0), t.1)
 
   pub first_goes : IsOpened W p.unit files p.progress q.progress M turned.Goes → TurnLeads files p (record q { firsts = next_of q.firsts }) None
   first_goes t =
       let now : Preproc = record q { firsts = next_of q.firsts } in
       let left : left_of files now ≡ go_on (Goes Done (state_of q.progress) []) (λ d. K) =
       left_first files now same.ending qf ∙ ap (λ u. firsts_left W u (next_of q.firsts) (state_of q.progress)) same.unit ∙ ap (λ f. firsts_left W p.unit (next_of f) (state_of q.progress)) same.firsts ∙ sym (behind_none (K (state_of q.progress))) in
-      (0, uncounted now same.ending, leads_from 0 p.progress q.progress _ _ _ left_p (leads_to 0 p.progress q.progress _ _ _ (sym left) (leads_go 0 p.progress q.progress _ _ (λ d. K) t.0)), good_none files now same.ending qf t.1 reads no_outer)
+      (leads_from 0 p.progress q.progress _ _ _ left_p (leads_to 0 p.progress q.progress _ _ _ (sym left) (leads_go 0 p.progress q.progress _ _ (λ d. K) t.0)), good_none files now same.ending qf t.1 reads no_outer)
 
   pub first_opens : (h : OpenFile) → IsOpened W p.unit files p.progress q.progress M (turned.Opens h) → TurnLeads files p (record q { firsts = next_of q.firsts; file = Some h }) None
   first_opens h t =
@@ -102,8 +102,6 @@ module _ (files : List KnownFile) (p q : Preproc) (path : Text) (same : IsSameUn
       ∙ ap (λ o. (reads_file W q.unit (reading_of q.progress.names files h) >>> λ d. files_left W q.unit q.progress.names files (next_of q.firsts) (reverse o)) (state_of q.progress)) no_outer
       ∙ ap (λ u. (reads_file W u (reading_of q.progress.names files h) >>> λ d. firsts_left W u (next_of q.firsts)) (state_of q.progress)) same.unit
       ∙ ap (λ f. (reads_file W p.unit (reading_of q.progress.names files h) >>> λ d. firsts_left W p.unit (next_of f)) (state_of q.progress)) same.firsts in (
-        0,
-        uncounted now same.ending,
         leads_from 0 p.progress q.progress _ _ _ left_p (leads_to 0 p.progress q.progress _ _ _ (sym left) (leads_go 0 p.progress q.progress _ _ (λ d. K) t.0)),
         good_going files now h same.ending refl
             (record { progress = t.1; file = t.2; line = fits t.3 t.1.reading; does = subst (IsDoing q.progress h) (sym reads) tt })

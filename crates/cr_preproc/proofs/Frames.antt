@@ -1,7 +1,7 @@
 -- Tasks one after another, and the stack of open files.
 use Rattle.std.proofs.Common.{◌≡◌, List, [], ◌∷◌, ◌++◌, refl, ap, sym, ◌∙◌, append_assoc}
-use Rattle.cr_preproc.specs.Tasks.{Event, Opened, Reply, Goes, Ends, Task, Nothing, Done, behind, go_on, ◌>>>◌, reads}
-use Rattle.cr_preproc.specs.Preprocessing.{does_file, does_lines}
+use Rattle.cr_phase4.specs.Tasks.{Event, Opened, Reply, Goes, Ends, Task, Nothing, Done, behind, go_on, ◌>>>◌, reads}
+use Rattle.cr_phase4.specs.Preprocessing.{does_file, does_lines}
 use Rattle.cr_preproc.specs.Frames.{goes_on, OpensInFront}
 
 pub behind_behind : {A : Type 0} (es fs : List Event) (r : Reply A) → behind es (behind fs r) ≡ behind (es ++ fs) r

@@ -9,9 +9,9 @@ use Rattle.cr_macros.specs.Definition.{text_of}
 use Rattle.cr_macros.specs.Tokens.{Text, Token, takes, token_of, tokens_of}
 use Rattle.cr_preproc.specs.declared.progress.Progress.{Progress}
 use Rattle.cr_preproc.specs.declared.progress.TheConstants.{MOST_TOKENS}
-use Rattle.cr_preproc.specs.Tasks.{Event, Took, Final, State, Over, Tokens, Reading, Goes, Ends, Done, marks, gives, reads}
+use Rattle.cr_phase4.specs.Tasks.{Event, Took, Final, State, Over, Tokens, Reading, Goes, Ends, Done, marks, gives, reads}
 use Rattle.cr_preproc.specs.Seen.{IsNamed, AreNamed}
-use Rattle.cr_preproc.specs.Traces.{seen_as, all_events_seen, opaque_place}
+use Rattle.cr_phase4.specs.Traces.{seen_as, all_events_seen, opaque_place}
 use Rattle.cr_preproc.specs.Progressing.{state_of, kept, joined, traced, IsProgress, IsSeen, IsNotOpaque, Did}
 use Rattle.cr_preproc.proofs.Marked.{told}
 use Rattle.cr_preproc.proofs.Progresses.{same_parts, taking_marks, taking_opaque, told_none}

@@ -5,7 +5,7 @@ use Rattle.std.specs.Option.{option_map}
 use Rattle.std.proofs.lemmas.Bool.Decides.{nat_tests}
 use Rattle.cr_base.specs.declared.token.PpTok.{PpTok}
 use Rattle.cr_macros.specs.Tokens.{Text, Token, token_of, tokens_of, is_mark}
-use Rattle.cr_preproc.specs.Directives.{blank_of, if_last, to_greater}
+use Rattle.cr_phase4.specs.Directives.{blank_of, if_last, to_greater}
 
 abbrev behind : Text → Option Text → Option Text
 behind name = option_map (λ rest. name ++ rest)

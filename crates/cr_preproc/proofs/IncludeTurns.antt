@@ -26,10 +26,10 @@ use Rattle.cr_preproc.specs.declared.expansion.Use.TheVariants as use1
 use Rattle.cr_preproc.specs.declared.open_file.OpenFile.{OpenFile}
 use Rattle.cr_preproc.specs.declared.progress.Progress.{Progress}
 use Rattle.cr_preproc.specs.declared.turning.Doing.{Doing}
-use Rattle.cr_preproc.specs.Tasks.{End, Told, State, Reply, Ends, Task, Nothing, behind, go_on, ◌>>>◌, tell, marks, at_place, end_of, told_by_uses, moved}
-use Rattle.cr_preproc.specs.Directives.{Opening, Header, all_marks, blank_of, if_last, to_greater, angled, header_name, site_of, opens, includes_expanded}
-use Rattle.cr_preproc.specs.Preprocessing.{does_file}
-use Rattle.cr_preproc.specs.Search.{World}
+use Rattle.cr_phase4.specs.Tasks.{End, Told, State, Reply, Ends, Task, Nothing, behind, go_on, ◌>>>◌, tell, marks, at_place, end_of, told_by_uses, moved}
+use Rattle.cr_phase4.specs.Directives.{Opening, Header, all_marks, blank_of, if_last, to_greater, angled, header_name, site_of, opens, includes_expanded}
+use Rattle.cr_phase4.specs.Preprocessing.{does_file}
+use Rattle.cr_phase4.specs.Search.{World}
 use Rattle.cr_preproc.specs.OpenFiles.{Reading, reading_of, IsOpen}
 use Rattle.cr_preproc.specs.Progressing.{state_of, IsProgress, IsTold}
 use Rattle.cr_preproc.specs.Seen.{IsNamed, AreNamed}

@@ -3,9 +3,9 @@ use Rattle.std.proofs.Common.{◌≡◌, ℕ, ◌+◌, List, [], ◌++◌, refl,
 use Rattle.cr_base.specs.declared.token.Place.{Place}
 use Rattle.cr_macros.specs.Tokens.{Text, Token}
 use Rattle.cr_preproc.specs.declared.progress.Progress.{Progress}
-use Rattle.cr_preproc.specs.Tasks.{Event, State, Reply, Goes, Ends, Task, Done, behind, go_on, ◌>>>◌, tell, at_place, events_of}
-use Rattle.cr_preproc.specs.PreprocessingRun.{steps}
-use Rattle.cr_preproc.specs.Runs.{runs, earlier, after_run}
+use Rattle.cr_phase4.specs.Tasks.{Event, State, Reply, Goes, Ends, Task, Done, behind, go_on, ◌>>>◌, tell, at_place, events_of}
+use Rattle.cr_phase4.specs.PreprocessingRun.{steps}
+use Rattle.cr_phase4.specs.Runs.{runs, earlier, after_run}
 use Rattle.cr_preproc.specs.Progressing.{state_of, IsProgress, Did}
 use Rattle.cr_preproc.specs.Leading.{Leads}
 use Rattle.cr_preproc.proofs.Frames.{behind_behind, behind_then}

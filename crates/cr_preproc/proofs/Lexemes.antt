@@ -8,7 +8,7 @@ use Rattle.cr_cond.specs.Value.{IsAnswer}
 use Rattle.cr_preproc.specs.Truths.{IsTruth, truth_of}
 use Rattle.cr_cond.specs.Symbols.{lexeme, lexemes}
 use Rattle.cr_macros.specs.Tokens.{Text, Token, tokens_of}
-use Rattle.cr_preproc.specs.Conditionals.{lexeme_of}
+use Rattle.cr_phase4.specs.Conditionals.{lexeme_of}
 
 pub lexemes_same : (names : List Text) (ts : List PpTok) → lexemes names ts ≡ map {A = Token} lexeme_of (tokens_of names ts)
 lexemes_same names [] = refl

@@ -8,10 +8,7 @@ pub mod Marked
 pub mod Leaving
 pub mod Deep
 pub mod Frames
-pub mod Growing
-pub mod Snapshots
 pub mod PathLists
-pub mod TextsKept
 pub mod Progresses
 pub mod Notings
 pub mod Definings
@@ -22,7 +19,6 @@ pub mod OpenSteps
 pub mod OpenedFiles
 pub mod NamesGrow
 pub mod OpenLater
-mod Rows
 mod ToldByUses
 mod RunsAhead
 mod Expandings

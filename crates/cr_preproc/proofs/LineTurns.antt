@@ -24,21 +24,21 @@ use Rattle.cr_preproc.specs.declared.conditional.Led.{Led}
 use Rattle.cr_preproc.specs.declared.conditional.Led.TheVariants as led
 use Rattle.cr_preproc.specs.declared.expansion.Expansion.{Expansion}
 use Rattle.cr_preproc.specs.declared.expansion.Fault.{Fault}
-use Rattle.cr_preproc.specs.declared.line.Word.{Word}
+use Rattle.cr_phase4.specs.declared.conditionals.Word.{Word}
 use Rattle.cr_preproc.specs.declared.open_file.OpenFile.{OpenFile}
-use Rattle.cr_preproc.specs.declared.open_ifs.OpenIf.{OpenIf}
+use Rattle.cr_phase4.specs.declared.conditionals.OpenIf.{OpenIf}
 use Rattle.cr_preproc.specs.declared.progress.Progress.{Progress}
 use Rattle.cr_preproc.specs.declared.reader.Coming.TheVariants as coming
 use Rattle.cr_preproc.specs.declared.turning.Then.{Then}
 use Rattle.cr_preproc.specs.declared.turning.Then.TheVariants as then
-use Rattle.cr_preproc.specs.Tasks.{Ill, Over, Reading as OfReading, Took, State, Reply, Goes, Ends, Task, Nothing, Done, behind, go_on, ◌>>>◌, only, ends, tell, marks, reads, in_directive, events_of}
-use Rattle.cr_preproc.specs.Lines.{Line, Plain, Conditional, Directive, Empty, Wordless, line_of, fault_of, token_in}
-use Rattle.cr_preproc.specs.Search.{World}
-use Rattle.cr_preproc.specs.Runs.{runs, run_in, expands, earlier, after_run}
-use Rattle.cr_preproc.specs.Conditionals.{is_live, is_word_live, conditional}
+use Rattle.cr_phase4.specs.Tasks.{Ill, Over, Reading as OfReading, Took, State, Reply, Goes, Ends, Task, Nothing, Done, behind, go_on, ◌>>>◌, only, ends, tell, marks, reads, in_directive, events_of}
+use Rattle.cr_phase4.specs.Lines.{Line, Plain, Conditional, Directive, Empty, Wordless, line_of, fault_of, token_in}
+use Rattle.cr_phase4.specs.Search.{World}
+use Rattle.cr_phase4.specs.Runs.{runs, run_in, expands, earlier, after_run}
+use Rattle.cr_phase4.specs.Conditionals.{is_live, is_word_live, conditional}
 use Rattle.cr_preproc.specs.OpenIfs.{first_of}
-use Rattle.cr_preproc.specs.Directives.{directive}
-use Rattle.cr_preproc.specs.Preprocessing.{Ahead, ahead, does_file, by_line, at_end, is_plain, run_with, where_live}
+use Rattle.cr_phase4.specs.Directives.{directive}
+use Rattle.cr_phase4.specs.Preprocessing.{Ahead, ahead, does_file, by_line, at_end, is_plain, run_with, where_live}
 use Rattle.cr_preproc.specs.OpenFiles.{Reading, reads_behind, reads_file, reading_of, IsOpen}
 use Rattle.cr_preproc.specs.OpenFileSteps.{HasLine, LacksLine, TellsNext, Takes}
 use Rattle.cr_preproc.specs.Progressing.{state_of, IsProgress, IsTold}

@@ -17,14 +17,14 @@ use Rattle.cr_expand.specs.Running.{leads}
 use Rattle.cr_expand.specs.declared.machine.TheConstants.{LIMIT}
 use Rattle.cr_preproc.specs.declared.conditional.Decision.{Decision}
 use Rattle.cr_preproc.specs.declared.expansion.Fault.{Fault}
-use Rattle.cr_preproc.specs.declared.open_ifs.OpenIf.{OpenIf}
+use Rattle.cr_phase4.specs.declared.conditionals.OpenIf.{OpenIf}
 use Rattle.cr_preproc.specs.declared.progress.Progress.{Progress}
 use Rattle.cr_preproc.specs.declared.progress.TheConstants.{MOST_TOKENS}
-use Rattle.cr_preproc.specs.Tasks.{End, Told, State, Reply, Ends, Task, Nothing, behind, go_on, ◌>>>◌, only, tell, marks, at_place, from_answer, end_of, told_by_uses, moved, events_of}
-use Rattle.cr_preproc.specs.PreprocessingRun.{is_step, steps}
-use Rattle.cr_preproc.specs.Search.{World}
-use Rattle.cr_preproc.specs.Runs.{runs, earlier}
-use Rattle.cr_preproc.specs.Conditionals.{lexeme_of, is_true, list_value}
+use Rattle.cr_phase4.specs.Tasks.{End, Told, State, Reply, Ends, Task, Nothing, behind, go_on, ◌>>>◌, only, tell, marks, at_place, from_answer, end_of, told_by_uses, moved, events_of}
+use Rattle.cr_phase4.specs.PreprocessingRun.{is_step, steps}
+use Rattle.cr_phase4.specs.Search.{World}
+use Rattle.cr_phase4.specs.Runs.{runs, earlier}
+use Rattle.cr_phase4.specs.Conditionals.{lexeme_of, is_true, list_value}
 use Rattle.cr_preproc.specs.OpenFiles.{Reading, reads_file}
 use Rattle.cr_preproc.specs.Progressing.{state_of, IsProgress}
 use Rattle.cr_preproc.specs.Seen.{macros_of, IsNamed, AreNamed}

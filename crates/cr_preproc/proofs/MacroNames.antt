@@ -15,7 +15,7 @@ use Rattle.cr_macros.specs.declared.fault.ExpandFault.TheVariants.{BadDefine, Ar
 use Rattle.cr_macros.specs.Tokens.{Text, MacroText, tokens_of}
 use Rattle.cr_macros.specs.Definition.{text_of}
 use Rattle.cr_macros.specs.MacroTables.{Macros, macro_named, macro_text, Sets, Defines, IsRefused}
-use Rattle.cr_preproc.specs.Definition.{Definition, definition}
+use Rattle.cr_phase4.specs.Definition.{Definition, definition}
 use Rattle.cr_preproc.specs.Seen.{AreNamed, AreMacrosNamed, macros_of, IsSameDefinition, SetsText, IsDefined, IsUndefined}
 use Rattle.cr_preproc.proofs.ByTexts.{same_name, drop_named, by_texts, name_known}
 

@@ -11,10 +11,10 @@ use Rattle.cr_macros.specs.declared.macros.Seen.{Seen}
 use Rattle.cr_macros.specs.Definition.{text_of}
 use Rattle.cr_macros.specs.Substitution.{one_more, index_of, named_params, param}
 use Rattle.cr_macros.specs.Tokens.{Text, Token, MacroText, Event as Telling, takes}
-use Rattle.cr_preproc.specs.Definition.{Definition}
-use Rattle.cr_preproc.specs.Directives.{all_marks, parameter_marks, definition_marks}
-use Rattle.cr_preproc.specs.Tasks.{Told, marks}
-use Rattle.cr_preproc.specs.Traces.{seen_telling, seen_as, all_seen_as, params_seen, seen_of, all_events_seen}
+use Rattle.cr_phase4.specs.Definition.{Definition}
+use Rattle.cr_phase4.specs.Directives.{all_marks, parameter_marks, definition_marks}
+use Rattle.cr_phase4.specs.Tasks.{Told, marks}
+use Rattle.cr_phase4.specs.Traces.{seen_telling, seen_as, all_seen_as, params_seen, seen_of, all_events_seen}
 
 index_step : (b : Bool) (o : Option ℕ) → is_some (cond b (Some 0) (one_more o)) ≡ (b || is_some o)
 index_step true o = refl

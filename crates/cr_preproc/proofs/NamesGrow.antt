@@ -1,5 +1,5 @@
 -- What is read by its names stays as it was when the table of names grows, and how the table grows by a text.
-use Rattle.std.proofs.Common.{◌≡◌, ℕ, ◌≤◌, List, [], ◌∷◌, ◌++◌, length, get_or, refl, ap, ◌∙◌, arith, length-append, Bool, true, false, cond, slice_get, Some, sym, subst, true≢false, zero, suc, ◌||◌, ◌⊎◌, inl, inr, append-nil, append_assoc}
+use Rattle.std.proofs.Common.{◌≡◌, ℕ, ◌<◌, ◌≤◌, List, [], ◌∷◌, ◌++◌, length, get_or, refl, ap, ◌∙◌, arith, length-append, Bool, true, false, cond, slice_get, Some, sym, subst, true≢false, zero, suc, ◌||◌, ◌⊎◌, inl, inr, append-nil, append_assoc}
 use Rattle.std.proofs.lemmas.List.{get_or_append_left}
 use Rattle.cr_base.specs.declared.token.Name.{Name}
 use Rattle.cr_base.specs.declared.token.PpTok.{PpTok}
@@ -9,14 +9,14 @@ use Rattle.cr_expand.specs.HideSets.{Grows}
 use Rattle.cr_expand.specs.Held.{IsNamed as IsNameKnown}
 use Rattle.cr_preproc.specs.Seen.{IsNamed, AreNamed}
 use Rattle.std.specs.Prelude.{bytes_eq}
-use Rattle.std.specs.List.{list_any}
+use Rattle.std.specs.List.{All, list_any}
 use Rattle.std.proofs.lemmas.Slice.Eq.{bytes_eq-Decides}
 use Rattle.cr_base.specs.NameTable.{IsDistinct, Interns, with_text}
 use Rattle.cr_lex.specs.Lexing as lexing
 use Rattle.cr_lex.specs.Seen.{with_texts, first_of}
 
-pub same_names : (names : List Text) → Grows names names
-same_names names = ([], sym (append-nil names))
+pub grows_none : (names : List Text) → Grows names names
+grows_none names = ([], sym (append-nil names))
 
 pub grows_more : (a b c : List Text) → Grows a b → Grows b c → Grows a c
 grows_more a b c (xs, e) (ys, f) = (xs ++ ys, f ∙ ap (λ l. l ++ ys) e ∙ append_assoc a xs ys)
@@ -24,7 +24,7 @@ grows_more a b c (xs, e) (ys, f) = (xs ++ ys, f ∙ ap (λ l. l ++ ys) e ∙ app
 pub with_grows : (names : List Text) (text : Text) → Grows names (with_text names text)
 with_grows names text = by (list_any (bytes_eq text) names) where
   by : (b : Bool) → Grows names (cond b names (names ++ text ∷ []))
-  by true = same_names names
+  by true = grows_none names
   by false = (text ∷ [], refl)
 
 pub interns_grows : (names : List Text) (text : Text) (new : List Text) (n : ℕ) → Interns names text new n → Grows names new
@@ -77,12 +77,6 @@ pub first_distinct : (names new : List Text) (ts : List lexing.Token) → new �
 first_distinct names new [] e d = let P : List Text → Type 0 = λ l. IsDistinct l in subst P (sym e) d
 first_distinct names new (t ∷ ts) e d = let P : List Text → Type 0 = λ l. IsDistinct l in subst P (sym e) (with_distinct names t.text d)
 
-pub grows_none : (names : List Text) → Grows names names
-grows_none names = ([], grow names) where
-  grow : (xs : List Text) → xs ≡ xs ++ []
-  grow [] = refl
-  grow (x ∷ xs) = ap (λ l. x ∷ l) (grow xs)
-
 pub longer : (names new : List Text) → Grows names new → length names ≤ length new
 longer names new g = let a = ap length g.1 in let b = length-append names g.0 in omega (arith, a, b)
 
@@ -104,3 +98,8 @@ tokens_later names new (t ∷ ts) g h =
 pub all_named_later : (names new : List Text) (ts : List PpTok) → Grows names new → AreNamed names ts → AreNamed new ts
 all_named_later names new [] g h = tt
 all_named_later names new (t ∷ ts) g h = (known_later names new t.text g h.0, all_named_later names new ts g h.1)
+
+pub all_named : (names : List Text) (ts : List PpTok) → AreNamed names ts → All (λ t. t.text.0 < length names) ts
+all_named names [] h k d l = absurd (omega arith)
+all_named names (t ∷ ts) h zero d l = h.0
+all_named names (t ∷ ts) h (suc k) d l = all_named names ts h.1 k d (omega arith)

@@ -18,18 +18,18 @@ use Rattle.cr_expand.specs.Held.{IsNamed}
 use Rattle.cr_expand.specs.Items.{IsTokenNamed, IsMacroKnown, AreNamed as AreParamsNamed}
 use Rattle.cr_expand.specs.Machines.{AreMacros}
 use Rattle.cr_preproc.specs.declared.progress.Progress.{Progress}
-use Rattle.cr_preproc.specs.Tasks.{Event, Goes, Task, Done, ready}
+use Rattle.cr_phase4.specs.Tasks.{Event, Goes, Task, Done, ready}
 use Rattle.cr_preproc.specs.Seen.{AreMacrosNamed, macros_of}
 use Rattle.cr_preproc.specs.Progressing.{state_of, IsProgress, IsTold, Did}
 use Rattle.cr_preproc.proofs.MacroNames.{lookup_same, missing, found_at}
-use Rattle.cr_preproc.proofs.TextsKept.{text_kept, name_later, token_kept, tokens_kept, named_later, grows_both}
+use Rattle.cr_preproc.proofs.NamesGrow.{text_later, known_later, token_later, tokens_later, all_named_later, grows_more}
 use Rattle.cr_preproc.proofs.Progresses.{told_none}
 
 module _ (names new : List Text) (g : Grows names new) where
   params_kept : (ps : List Name) → All (IsNamed names) ps → map (text_of new) ps ≡ map (text_of names) ps
   params_kept [] h = refl
   params_kept (p ∷ ps) h =
-      ap (λ t. t ∷ map (text_of new) ps) (text_kept names new p g (All-head (IsNamed names) p ps h)) ∙ ap (λ l. text_of names p ∷ l) (params_kept ps (All-tail (IsNamed names) p ps h))
+      ap (λ t. t ∷ map (text_of new) ps) (text_later names new p g (All-head (IsNamed names) p ps h)) ∙ ap (λ l. text_of names p ∷ l) (params_kept ps (All-tail (IsNamed names) p ps h))
 
   all_params_kept : (o : Option (List Name)) → AreParamsNamed names o → option_map (map (text_of new)) o ≡ option_map (map (text_of names)) o
   all_params_kept None h = refl
@@ -38,7 +38,7 @@ module _ (names new : List Text) (g : Grows names new) where
   body_kept : (ts : List PpTok) → All (IsTokenNamed names) ts → tokens_of new ts ≡ tokens_of names ts
   body_kept [] h = refl
   body_kept (t ∷ ts) h =
-      ap (λ x. x ∷ tokens_of new ts) (token_kept names new [] t g (All-head (IsTokenNamed names) t ts h)) ∙ ap (λ l. token_of names [] t ∷ l) (body_kept ts (All-tail (IsTokenNamed names) t ts h))
+      ap (λ x. x ∷ tokens_of new ts) (token_later names new [] t g (All-head (IsTokenNamed names) t ts h)) ∙ ap (λ l. token_of names [] t ∷ l) (body_kept ts (All-tail (IsTokenNamed names) t ts h))
 
   macro_kept : (m : Macro) → IsMacroKnown names m → macro_text new m ≡ macro_text names m
   macro_kept m h =
@@ -48,7 +48,7 @@ module _ (names new : List Text) (g : Grows names new) where
   lookup_kept : (t : Text) (macros : Macros) → AreMacrosNamed names macros → lookup (λ k. bytes_eq t (text_of new k)) macros ≡ lookup (λ k. bytes_eq t (text_of names k)) macros
   lookup_kept t [] h = refl
   lookup_kept t (e ∷ macros) h =
-      ap (λ x. cond (bytes_eq t x) (Some e.1) (lookup (λ k. bytes_eq t (text_of new k)) macros)) (text_kept names new e.0 g h.0)
+      ap (λ x. cond (bytes_eq t x) (Some e.1) (lookup (λ k. bytes_eq t (text_of new k)) macros)) (text_later names new e.0 g h.0)
       ∙ ap (λ o. cond (bytes_eq t (text_of names e.0)) (Some e.1) o) (lookup_kept t macros h.1)
 
   -- a macro that is found by its text is known
@@ -69,7 +69,7 @@ module _ (names new : List Text) (g : Grows names new) where
 
   pub macros_named_later : (macros : Macros) → AreMacrosNamed names macros → AreMacrosNamed new macros
   macros_named_later [] h = tt
-  macros_named_later (e ∷ macros) h = (name_later names new e.0 g h.0, macros_named_later macros h.1)
+  macros_named_later (e ∷ macros) h = (known_later names new e.0 g h.0, macros_named_later macros h.1)
 
 module _ (p : Progress) (new : List Text) (good : IsProgress p) (g : Grows p.names new) where
   abbrev later : Progress
@@ -81,11 +81,11 @@ module _ (p : Progress) (new : List Text) (good : IsProgress p) (g : Grows p.nam
   pub good_later : IsDistinct new → AreMacros new p.macros → IsProgress later
   good_later d k = record {
     distinct = d;
-    old = name_later p.names new p.renaming.old g good.old;
-    new = name_later p.names new p.renaming.new g good.new;
+    old = known_later p.names new p.renaming.old g good.old;
+    new = known_later p.names new p.renaming.new g good.new;
     macros = k;
     macro_names = macros_named_later p.names new g p.macros good.macro_names;
-    tokens = named_later p.names new p.tokens.items g good.tokens;
+    tokens = all_named_later p.names new p.tokens.items g good.tokens;
     used = good.used;
     reading = good.reading;
     room = good.room;
@@ -94,10 +94,10 @@ module _ (p : Progress) (new : List Text) (good : IsProgress p) (g : Grows p.nam
   -- events stay told
   pub told_later : (old : Progress) (events : List Event) → IsTold old p events → IsTold old later events
   told_later old events h = record {
-    tokens = tokens_kept p.names new p.tokens.items g good.tokens ∙ h.tokens;
+    tokens = tokens_later p.names new p.tokens.items g good.tokens ∙ h.tokens;
     trace = h.trace;
     renaming = h.renaming;
-    names = grows_both old.names p.names new h.names g;
+    names = grows_more old.names p.names new h.names g;
   }
 
   -- nothing was done but that names were added

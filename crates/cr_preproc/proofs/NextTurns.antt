@@ -17,21 +17,21 @@ use Rattle.cr_preproc.specs.declared.conditional.Led.{Led}
 use Rattle.cr_preproc.specs.declared.expansion.Fault.{Fault}
 use Rattle.cr_preproc.specs.declared.line.Line.TheVariants as code
 use Rattle.cr_preproc.specs.declared.line.Line.{Line as CodeLine}
-use Rattle.cr_preproc.specs.declared.line.Word.{Word}
+use Rattle.cr_phase4.specs.declared.conditionals.Word.{Word}
 use Rattle.cr_preproc.specs.declared.open_file.OpenFile.{OpenFile}
-use Rattle.cr_preproc.specs.declared.open_ifs.OpenIf.{OpenIf}
+use Rattle.cr_phase4.specs.declared.conditionals.OpenIf.{OpenIf}
 use Rattle.cr_preproc.specs.declared.progress.Progress.{Progress}
 use Rattle.cr_preproc.specs.declared.reader.Coming.TheVariants as coming
 use Rattle.cr_preproc.specs.declared.turning.Doing.{Doing}
 use Rattle.cr_preproc.specs.declared.turning.Doing.TheVariants as doing
 use Rattle.cr_preproc.specs.declared.turning.Then.{Then}
 use Rattle.cr_preproc.specs.declared.turning.Then.TheVariants as then
-use Rattle.cr_preproc.specs.Tasks.{Took, Reply, Task, Nothing, behind, ◌>>>◌, marks}
-use Rattle.cr_preproc.specs.Lines.{Line, Plain, Conditional, line_of, fault_of}
-use Rattle.cr_preproc.specs.Search.{World}
-use Rattle.cr_preproc.specs.Runs.{runs}
-use Rattle.cr_preproc.specs.Conditionals.{is_live, is_word_live}
-use Rattle.cr_preproc.specs.Preprocessing.{at_end, run_with}
+use Rattle.cr_phase4.specs.Tasks.{Took, Reply, Task, Nothing, behind, ◌>>>◌, marks}
+use Rattle.cr_phase4.specs.Lines.{Line, Plain, Conditional, line_of, fault_of}
+use Rattle.cr_phase4.specs.Search.{World}
+use Rattle.cr_phase4.specs.Runs.{runs}
+use Rattle.cr_phase4.specs.Conditionals.{is_live, is_word_live}
+use Rattle.cr_phase4.specs.Preprocessing.{at_end, run_with}
 use Rattle.cr_preproc.specs.OpenFiles.{Reading, reads_file, reading_of, IsOpen}
 use Rattle.cr_preproc.specs.OpenFileSteps.{HasLine, LacksLine, TellsNext, Takes}
 use Rattle.cr_preproc.specs.Progressing.{state_of, IsProgress}

@@ -9,14 +9,14 @@ use Rattle.cr_macros.specs.Definition.{text_of}
 use Rattle.cr_macros.specs.Tokens.{Text, Token, tokens_of}
 use Rattle.cr_expand.specs.Expanders.{plain}
 use Rattle.cr_preproc.specs.declared.progress.Progress.{Progress}
-use Rattle.cr_preproc.specs.Tasks.{Event, Goes, Done, tell, marks}
-use Rattle.cr_preproc.specs.PreprocessingRun.{steps, final_tokens}
-use Rattle.cr_preproc.specs.Traces.{all_seen_as, all_events_seen, opaque_place}
+use Rattle.cr_phase4.specs.Tasks.{Event, Goes, Done, tell, marks}
+use Rattle.cr_phase4.specs.PreprocessingRun.{steps, final_tokens}
+use Rattle.cr_phase4.specs.Traces.{all_seen_as, all_events_seen, opaque_place}
 use Rattle.cr_preproc.specs.Progressing.{state_of, kept, IsProgress, IsSeen, IsTraced, IsNotOpaque, IsTold, Did}
 use Rattle.std.proofs.Math.Seq.{drop-append_seam, take-length}
 use Rattle.std.proofs.lemmas.List.Concat.{flat_map_single}
-use Rattle.cr_preproc.specs.Conditionals.{Piece, Other, Asks, asking}
-use Rattle.cr_preproc.specs.Directives.{all_marks}
+use Rattle.cr_phase4.specs.Conditionals.{Piece, Other, Asks, asking}
+use Rattle.cr_phase4.specs.Directives.{all_marks}
 use Rattle.cr_preproc.proofs.Marked.{all_told}
 use Rattle.cr_preproc.proofs.Progresses.{same_parts, AreTaking, taking_steps, taking_final, taking_new_macros, taking_body_params, taking_opaque, taking_all, taking_both, taking_marks}
 

@@ -20,7 +20,7 @@ use Rattle.cr_snapshot.specs.Files.{Present, Unknown, finding, StaysKnown, Numbe
 use Rattle.cr_expand.specs.HideSets.{Grows}
 use Rattle.cr_preproc.specs.declared.open_file.OpenFile.{OpenFile}
 use Rattle.cr_preproc.specs.declared.reader.Reader.{Reader}
-use Rattle.cr_preproc.specs.Lines.{token_in}
+use Rattle.cr_phase4.specs.Lines.{token_in}
 use Rattle.cr_preproc.specs.Readers.{IsReading, IsNext, before, reading}
 use Rattle.cr_preproc.specs.Seen.{IsNamed, AreNamed}
 use Rattle.cr_preproc.specs.OpenFiles.{Reading, reading_of, bytes_of, bytes_at, IsOpen}

@@ -4,11 +4,11 @@ use Rattle.cr_base.specs.declared.unit.Unit.{Unit}
 use Rattle.cr_lex.specs.Lexing.{Lexed, Fault, with_token, lexed}
 use Rattle.cr_lex.specs.Lexing as lexing
 use Rattle.cr_macros.specs.Tokens.{Text}
-use Rattle.cr_preproc.specs.Tasks.{State, Took, ◌>>>◌, reads, go_on}
-use Rattle.cr_preproc.specs.Lines.{file_of, fault_of, line_of}
-use Rattle.cr_preproc.specs.Search.{World}
-use Rattle.cr_preproc.specs.Runs.{inside}
-use Rattle.cr_preproc.specs.Preprocessing.{does_file, does_lines, by_line, run_with, at_end}
+use Rattle.cr_phase4.specs.Tasks.{State, Took, ◌>>>◌, reads, go_on}
+use Rattle.cr_phase4.specs.Lines.{file_of, fault_of, line_of}
+use Rattle.cr_phase4.specs.Search.{World}
+use Rattle.cr_phase4.specs.Runs.{inside}
+use Rattle.cr_phase4.specs.Preprocessing.{does_file, does_lines, by_line, run_with, at_end}
 use Rattle.cr_preproc.specs.OpenFiles.{Reading, reads_behind, reads_file}
 use Rattle.cr_preproc.specs.OpenFileSteps.{begins, HasLine, LacksLine, Takes}
 use Rattle.cr_preproc.proofs.ReadingOn.{takes_one, line_done, file_done}

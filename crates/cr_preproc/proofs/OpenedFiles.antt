@@ -16,7 +16,7 @@ use Rattle.cr_expand.specs.HideSets.{Grows}
 use Rattle.cr_preproc.specs.declared.open_file.OpenFile.{OpenFile}
 use Rattle.cr_preproc.specs.declared.reader.Coming.{Coming}
 use Rattle.cr_preproc.specs.declared.reader.Coming.TheVariants as coming
-use Rattle.cr_preproc.specs.Lines.{token_in}
+use Rattle.cr_phase4.specs.Lines.{token_in}
 use Rattle.cr_preproc.specs.Readers.{IsReading, IsComing, reading}
 use Rattle.cr_preproc.specs.Seen.{AreNamed}
 use Rattle.cr_preproc.specs.OpenFiles.{reading_of, bytes_at, IsOpen}

@@ -20,12 +20,12 @@ use Rattle.cr_preproc.specs.declared.turning.Doing.{Doing}
 use Rattle.cr_preproc.specs.declared.turning.Doing.TheVariants as doing
 use Rattle.cr_preproc.specs.declared.turning.Turned.{Turned}
 use Rattle.cr_preproc.specs.declared.turning.Turned.TheVariants as turned
-use Rattle.cr_preproc.specs.Tasks as tasks
-use Rattle.cr_preproc.specs.Tasks.{Ill, Over, Needs, Includes, Opened, Looked, Event, State, Reply, Goes, Ends, Task, Nothing, Done, behind, go_on, ◌>>>◌, ready}
-use Rattle.cr_preproc.specs.Lines.{File, file_of, fault_of, lines_of}
-use Rattle.cr_preproc.specs.Search.{World, Finds, Misses, Lacks, search, unknown, looked_for}
-use Rattle.cr_preproc.specs.Directives.{Opening, opens_found, looks, opens}
-use Rattle.cr_preproc.specs.Preprocessing.{does_file, does_lines}
+use Rattle.cr_phase4.specs.Tasks as tasks
+use Rattle.cr_phase4.specs.Tasks.{Ill, Over, Needs, Includes, Opened, Looked, Event, State, Reply, Goes, Ends, Task, Nothing, Done, behind, go_on, ◌>>>◌, ready}
+use Rattle.cr_phase4.specs.Lines.{File, file_of, fault_of, lines_of}
+use Rattle.cr_phase4.specs.Search.{World, Finds, Misses, Lacks, search, unknown, looked_for}
+use Rattle.cr_phase4.specs.Directives.{Opening, opens_found, looks, opens}
+use Rattle.cr_phase4.specs.Preprocessing.{does_file, does_lines}
 use Rattle.cr_preproc.specs.OpenFiles.{Reading, reading_of, reads_file, IsOpen}
 use Rattle.cr_preproc.specs.OpenFileSteps.{begins}
 use Rattle.cr_preproc.specs.Progressing.{state_of, kept, IsTold, IsProgress}
@@ -216,7 +216,7 @@ module _ (w : World) (u : Unit) (files : List KnownFile) (p q : Progress) (f : O
       → (t : Turned) → WantsNoFile t → IsOpened w u files p q m t → IsTurned w u files p q f f d doing.Reads t
   looked d e turned.Goes v h = let l = looked_goes h in ((λ k. leads_from 0 p q _ _ _ (e k) (l.0 k)), l.1)
   looked d e (turned.Opens x) v h = let l = looked_opens x h in ((λ k. leads_from 0 p q _ _ _ (e k) (l.0 k)), l.1, l.2, l.3, l.4, l.5, l.6)
-  looked d e (turned.Ends fault) v h = (0, inl refl, (λ k. leads_from 0 p q _ _ _ (e k) (leads_go 0 p q _ _ (behind_it k p.names) h.0)), h.1)
+  looked d e (turned.Ends fault) v h = ((λ k. leads_from 0 p q _ _ _ (e k) (leads_go 0 p q _ _ (behind_it k p.names) h.0)), h.1)
   looked d e (turned.Needs paths) v h = absurd v
   looked d e turned.Steps v h = absurd h
   looked d e turned.Closes v h = absurd h

@@ -15,12 +15,12 @@ use Rattle.cr_macros.specs.Tokens.{Text, Token, Event as Telling, Rule, Taken, i
 use Rattle.cr_expand.specs.HideSets.{Grows}
 use Rattle.cr_expand.specs.Expanders.{plain}
 use Rattle.cr_preproc.specs.declared.progress.Progress.{Progress}
-use Rattle.cr_preproc.specs.Tasks.{Event, Took, Opened, Looked, Defined, Told, Final, Task, Done, behind, go_on, ◌>>>◌, only, marks}
-use Rattle.cr_preproc.specs.Directives.{all_marks}
-use Rattle.cr_preproc.specs.PreprocessingRun.{is_step, steps, final_of, final_tokens}
-use Rattle.cr_preproc.specs.Traces.{Trace, trace_of, is_either, seen_telling, seen_of, all_events_seen, new_macros_of, body_params_of, opaque_place}
+use Rattle.cr_phase4.specs.Tasks.{Event, Took, Opened, Looked, Defined, Told, Final, Task, Done, behind, go_on, ◌>>>◌, only, marks}
+use Rattle.cr_phase4.specs.Directives.{all_marks}
+use Rattle.cr_phase4.specs.PreprocessingRun.{is_step, steps, final_of, final_tokens}
+use Rattle.cr_phase4.specs.Traces.{Trace, trace_of, is_either, seen_telling, seen_of, all_events_seen, new_macros_of, body_params_of, opaque_place}
 use Rattle.cr_preproc.specs.Progressing.{kept, joined, traced, IsProgress, IsTold, Did}
-use Rattle.cr_preproc.proofs.TextsKept.{text_kept, grows_both, grows_none}
+use Rattle.cr_preproc.proofs.NamesGrow.{text_later, grows_more, grows_none}
 
 -- lists of events one behind another
 
@@ -66,8 +66,8 @@ told_none p = record {
 pub traced_later : (p q : Progress) (events : List Event) → IsProgress p → q.renaming ≡ p.renaming → Grows p.names q.names → traced q events ≡ traced p events
 traced_later p q events good same g =
     ap (λ r. trace_of (text_of q.names r.old) (text_of q.names r.new) events) same
-    ∙ ap (λ t. trace_of t (text_of q.names p.renaming.new) events) (text_kept p.names q.names p.renaming.old g good.old)
-    ∙ ap (λ t. trace_of (text_of p.names p.renaming.old) t events) (text_kept p.names q.names p.renaming.new g good.new)
+    ∙ ap (λ t. trace_of t (text_of q.names p.renaming.new) events) (text_later p.names q.names p.renaming.old g good.old)
+    ∙ ap (λ t. trace_of (text_of p.names p.renaming.old) t events) (text_later p.names q.names p.renaming.new g good.new)
 
 pub told_then : (p q r : Progress) (xs ys : List Event) → IsProgress p → IsTold p q xs → IsTold q r ys → IsTold p r (xs ++ ys)
 told_then p q r xs ys good h k = record {
@@ -78,7 +78,7 @@ told_then p q r xs ys good h k = record {
       k.trace ∙ ap (λ t. joined t (traced q ys)) h.trace ∙ ap (λ t. joined (joined (kept p.trace) (traced p xs)) t) (traced_later p q ys good h.renaming h.names)
       ∙ joined_assoc (kept p.trace) (traced p xs) (traced p ys) ∙ ap (joined (kept p.trace)) (sym (trace_behind (text_of p.names p.renaming.old) (text_of p.names p.renaming.new) xs ys));
   renaming = k.renaming ∙ h.renaming;
-  names = grows_both p.names q.names r.names h.names k.names;
+  names = grows_more p.names q.names r.names h.names k.names;
 }
 
 pub did_only : {A : Type 0} (p : Progress) (a : A) → IsProgress p → Did 0 p p (only a) a

@@ -6,14 +6,14 @@ use Rattle.cr_base.specs.declared.cause.IllCause.TheVariants as cause
 use Rattle.cr_base.specs.declared.cause.Role.TheVariants.{Controlling, Directive}
 use Rattle.cr_cond.specs.declared.CondFault.{CondFault}
 use Rattle.cr_macros.specs.Tokens.{Text, Token, Answer, Gave, Stopped, is_ident}
-use Rattle.cr_preproc.specs.declared.line.Word.{Word}
-use Rattle.cr_preproc.specs.declared.line.Word.TheVariants.{If, Ifdef, Ifndef, Elif, Else, Endif}
-use Rattle.cr_preproc.specs.declared.open_ifs.Group.{Group}
-use Rattle.cr_preproc.specs.declared.open_ifs.Group.TheVariants.{Taken, Before, Past}
-use Rattle.cr_preproc.specs.declared.open_ifs.OpenIf.{OpenIf}
-use Rattle.cr_preproc.specs.Tasks.{Ill, marks, Event, State, Reply, Goes, Ends, Task, behind, go_on, ◌>>>◌, only, ends, tell, look, from_answer, at_place, in_directive}
-use Rattle.cr_preproc.specs.Runs.{expands}
-use Rattle.cr_preproc.specs.Conditionals.{is_macro, group_if, opened, group_of_else, list_value, answered, asking, pieces, is_true, condition, is_named, elif_in, elif, else_in, endif, begun, conditional, is_live}
+use Rattle.cr_phase4.specs.declared.conditionals.Word.{Word}
+use Rattle.cr_phase4.specs.declared.conditionals.Word.TheVariants.{If, Ifdef, Ifndef, Elif, Else, Endif}
+use Rattle.cr_phase4.specs.declared.conditionals.Group.{Group}
+use Rattle.cr_phase4.specs.declared.conditionals.Group.TheVariants.{Taken, Before, Past}
+use Rattle.cr_phase4.specs.declared.conditionals.OpenIf.{OpenIf}
+use Rattle.cr_phase4.specs.Tasks.{Ill, marks, Event, State, Reply, Goes, Ends, Task, behind, go_on, ◌>>>◌, only, ends, tell, look, from_answer, at_place, in_directive}
+use Rattle.cr_phase4.specs.Runs.{expands}
+use Rattle.cr_phase4.specs.Conditionals.{is_macro, group_if, opened, group_of_else, list_value, answered, asking, pieces, is_true, condition, is_named, elif_in, elif, else_in, endif, begun, conditional, is_live}
 
 -- whatever it comes to, this much may be read behind it
 abbrev pub Keeps : {A : Type 0} → ℕ → Reply A → Type 0

@@ -5,13 +5,13 @@ use Rattle.cr_base.specs.declared.unit.Unit.{Unit}
 use Rattle.cr_lex.specs.Lexing.{Lexed, Fault, with_token}
 use Rattle.cr_lex.specs.Lexing as lexing
 use Rattle.cr_macros.specs.Tokens.{Token}
-use Rattle.cr_preproc.specs.declared.open_ifs.OpenIf.{OpenIf}
-use Rattle.cr_preproc.specs.Tasks.{State, Took, Reply, Goes, Ends, Task, Nothing, behind, go_on, ◌>>>◌, reads}
-use Rattle.cr_preproc.specs.Lines.{token_in, lines_of, into_line, fault_of, line_of}
-use Rattle.cr_preproc.specs.Search.{World}
-use Rattle.cr_preproc.specs.Runs.{inside}
-use Rattle.cr_preproc.specs.Conditionals.{is_live}
-use Rattle.cr_preproc.specs.Preprocessing.{does_file, does_lines, by_line, takes_rest, run_with, at_end}
+use Rattle.cr_phase4.specs.declared.conditionals.OpenIf.{OpenIf}
+use Rattle.cr_phase4.specs.Tasks.{State, Took, Reply, Goes, Ends, Task, Nothing, behind, go_on, ◌>>>◌, reads}
+use Rattle.cr_phase4.specs.Lines.{token_in, lines_of, into_line, fault_of, line_of}
+use Rattle.cr_phase4.specs.Search.{World}
+use Rattle.cr_phase4.specs.Runs.{inside}
+use Rattle.cr_phase4.specs.Conditionals.{is_live}
+use Rattle.cr_phase4.specs.Preprocessing.{does_file, does_lines, by_line, takes_rest, run_with, at_end}
 use Rattle.cr_preproc.specs.OpenFiles.{Reading, line_left, lines_behind, reads_behind}
 use Rattle.cr_preproc.proofs.Frames.{then_assoc}
 

@@ -6,8 +6,8 @@ use Rattle.cr_macros.specs.Expansion.{Table, Use, use_of}
 use Rattle.cr_macros.specs.Uses.{put_for, is_given, left_behind}
 use Rattle.cr_expand.specs.Ahead.{Next, next_on, next_within, next_token}
 use Rattle.cr_expand.specs.Machines.{EndsWithRule}
-use Rattle.cr_preproc.specs.Tasks.{Told, State, Ends, behind, go_on, ◌>>>◌, gives, from_answer, end_of, told_by_uses}
-use Rattle.cr_preproc.specs.Runs.{run_on, run_in}
+use Rattle.cr_phase4.specs.Tasks.{Told, State, Ends, behind, go_on, ◌>>>◌, gives, from_answer, end_of, told_by_uses}
+use Rattle.cr_phase4.specs.Runs.{run_on, run_in}
 use Rattle.cr_preproc.specs.Leading.{given_on, run_left}
 use Rattle.cr_preproc.proofs.Deep.{follows_the_rules, behind_within, use_within}
 use Rattle.cr_preproc.proofs.Frames.{behind_behind}

@@ -7,7 +7,7 @@ use Rattle.cr_macros.specs.Substitution.{body_items, made, subst}
 use Rattle.cr_macros.specs.Expansion.{Table, Use, Keep, Predefined, Object, Call, Wrong, expanded, put_in, expand}
 use Rattle.cr_macros.specs.Uses.{put_for}
 use Rattle.cr_expand.specs.Machines.{uses, EndsWithRule}
-use Rattle.cr_preproc.specs.Tasks.{role_before, told_by_uses}
+use Rattle.cr_phase4.specs.Tasks.{role_before, told_by_uses}
 
 -- of what has no use nothing is told
 pub told_none : (events : List Event) → uses events ≡ 0 → told_by_uses events ≡ []

@@ -1,5 +1,5 @@
 -- What a use of a rule of an expansion changes, and what is left behind a run.
-use Rattle.std.proofs.Common.{◌≡◌, ℕ, ◌+◌, ◌-◌, ◌≤◌, true, cond, List, [], ◌∷◌, map, length, refl, ap, sym, ◌∙◌, subst, arith, Option, Some, None, inr}
+use Rattle.std.proofs.Common.{◌≡◌, ℕ, ◌+◌, ◌-◌, ◌≤◌, true, cond, List, [], ◌∷◌, map, length, refl, ap, sym, ◌∙◌, subst, arith, Option, Some, None}
 use Rattle.std.specs.Prelude.{nat_lt}
 use Rattle.std.proofs.lemmas.Bool.Decides.{nat_tests}
 use Rattle.std.proofs.lemmas.List.Sums.{sum_by-cons}
@@ -15,21 +15,22 @@ use Rattle.cr_expand.specs.GoodMacros.{KeepsMacros}
 use Rattle.cr_expand.specs.Machines.{uses}
 use Rattle.cr_expand.specs.declared.machine.TheConstants.{LIMIT}
 use Rattle.cr_preproc.specs.declared.expansion.Expansion.{Expansion}
+use Rattle.cr_preproc.specs.declared.expansion.Fault.{Fault}
 use Rattle.cr_preproc.specs.declared.open_file.OpenFile.{OpenFile}
 use Rattle.cr_preproc.specs.declared.progress.Progress.{Progress}
 use Rattle.cr_preproc.specs.declared.progress.TheConstants.{MOST_TOKENS}
 use Rattle.cr_preproc.specs.declared.turning.Then.{Then}
 use Rattle.cr_preproc.specs.declared.turning.Then.TheVariants as then
+use Rattle.cr_preproc.specs.declared.turning.Doing.{Doing}
 use Rattle.cr_preproc.specs.declared.turning.Doing.TheVariants as doing
-use Rattle.cr_preproc.specs.declared.turning.Turned.{Turned}
 use Rattle.cr_preproc.specs.declared.turning.Turned.TheVariants as turned
 use Rattle.cr_preproc.specs.declared.expansion.Use.TheVariants as use1
 use Rattle.cr_preproc.specs.RunTurns.{IsGiving}
-use Rattle.cr_preproc.specs.Tasks.{End, Limit, Over, Tokens, Event, Told, Final, State, Reply, Goes, Ends, Task, Nothing, Done, behind, go_on, ◌>>>◌, gives, from_answer, told_by_uses}
-use Rattle.cr_preproc.specs.Lines.{line_of}
-use Rattle.cr_preproc.specs.PreprocessingRun.{is_step, steps}
-use Rattle.cr_preproc.specs.Runs.{run_in}
-use Rattle.cr_preproc.specs.Search.{World}
+use Rattle.cr_phase4.specs.Tasks.{End, Limit, Over, Tokens, Event, Told, Final, State, Reply, Goes, Ends, Task, Nothing, Done, behind, go_on, ◌>>>◌, gives, from_answer, told_by_uses}
+use Rattle.cr_phase4.specs.Lines.{line_of}
+use Rattle.cr_phase4.specs.PreprocessingRun.{is_step, steps}
+use Rattle.cr_phase4.specs.Runs.{run_in}
+use Rattle.cr_phase4.specs.Search.{World}
 use Rattle.cr_preproc.specs.OpenFiles.{Reading, reading_of, IsOpen}
 use Rattle.cr_preproc.specs.Progressing.{state_of, IsProgress, IsTold, Did}
 use Rattle.cr_preproc.specs.Expanding.{IsUsed, IsOneUse, IsNoted, IsExpanding, StopsAt, table_for, ahead_in, end_by}
@@ -255,24 +256,33 @@ module _ (law : KeepsMacros) (w : World) (u : Unit) (files : List KnownFile) (p 
   pub used_good_after : IsProgress (with_used q n)
   used_good_after = used_good q n good_after limit
 
-  pub run_gives : (r : Turned) → IsGiving (with_used q n) v t r → IsTurned w u files p v file file (doing.Expands e next) (doing.Expands f next) r
-  run_gives turned.Steps h = (
-    run_given law w u files p q file used.1 e f next good o x used.8 used.3 used.10 n (token_of q.names used.0 t) used.2 before_is v after_is h.1 (h.0 used.0),
-    run_working files p q v file used.1 f next n o line used.8 used.9 (used.10 ∙ literal) (h.0 []).good h.1,
-  )
-  run_gives (turned.Ends fault) h = (
-    1,
-    inr (refl, h.2),
-    λ k.
+  -- a run that ended the unit leaves nothing to work on
+  ended_working : (fault : Fault) → v ≡ with_used q n → IsWorking files v file (doing.Fails fault)
+  ended_working fault e =
+      subst (λ y. IsWorking files y file (doing.Fails fault)) (sym e) (record {
+        progress = used_good_after;
+        file = open_later p.names q.names files file used.8.told.names o;
+        line = subst (λ m. length file.line.items + m ≤ 33554432) (sym used.8.reading) line;
+        does = tt;
+      })
+
+  pub run_gives : (d : Doing) → IsGiving (with_used q n) v t (doing.Expands f next) d → IsTurned w u files p v file file (doing.Expands e next) d turned.Steps
+  run_gives (doing.Expands g then) h =
+      subst (λ d. IsTurned w u files p v file file (doing.Expands e next) d turned.Steps) (sym h.2) (
+        run_given law w u files p q file used.1 e f next good o x used.8 used.3 used.10 n (token_of q.names used.0 t) used.2 before_is v after_is h.1 (h.0 used.0),
+        run_working files p q v file used.1 f next n o line used.8 used.9 (used.10 ∙ literal) (h.0 []).good h.1,
+      )
+  run_gives (doing.Fails fault) h = (
+    (λ k.
         subst (λ y. Leads {A = Nothing} 1 p y (doing_left w u p (reading_of p.names files file) k (doing.Expands e next)) (Ends (end_by fault) [])) (sym h.1)
         (subst (λ end. Leads {A = Nothing} 1 p (with_used q n) (doing_left w u p (reading_of p.names files file) k (doing.Expands e next)) (Ends end [])) (sym h.2)
-        (run_full law w u files p q file used.1 e f next good o x used.8 used.3 used.10 n (token_of q.names used.0 t) used.2 before_is k h.0)),
-    subst IsProgress (sym h.1) used_good_after,
+        (run_full law w u files p q file used.1 e f next good o x used.8 used.3 used.10 n (token_of q.names used.0 t) used.2 before_is k h.0))),
+    ended_working fault h.1,
   )
-  run_gives turned.Goes h = absurd h
-  run_gives turned.Closes h = absurd h
-  run_gives (turned.Opens g) h = absurd h
-  run_gives (turned.Needs paths) h = absurd h
+  run_gives doing.Reads h = absurd h
+  run_gives (doing.Decides g given d hash) h = absurd h
+  run_gives (doing.Includes g given hash) h = absurd h
+  run_gives (doing.Looks paths site) h = absurd h
 
 -- the run is at its end, where a use of a rule changes nothing
 pub run_ends : (w : World) (u : Unit) (files : List KnownFile) (p q : Progress) (file : OpenFile) (e f : Expansion) (next : Then) (n : ℕ) → n ≡ f.expander.machine.used → IsUsed p q e f use1.Ends → (k : Task Nothing)

@@ -6,11 +6,11 @@ use Rattle.cr_macros.specs.Tokens.{Text, tokens_of}
 use Rattle.cr_expand.specs.Expanders.{plain}
 use Rattle.cr_snapshot.specs.declared.known.KnownFile.{KnownFile}
 use Rattle.cr_preproc.specs.declared.preproc.Preproc.{Preproc}
-use Rattle.cr_preproc.specs.Tasks.{Needs, Event, Reply, Goes, Ends, Nothing, Done, behind}
-use Rattle.cr_preproc.specs.PreprocessingRun.{final_tokens}
-use Rattle.cr_preproc.specs.Preprocessing.{preprocessed}
-use Rattle.cr_preproc.specs.Search.{world_of}
-use Rattle.cr_preproc.specs.Traces.{trace_of}
+use Rattle.cr_phase4.specs.Tasks.{Needs, Event, Reply, Goes, Ends, Nothing, Done, behind}
+use Rattle.cr_phase4.specs.PreprocessingRun.{final_tokens}
+use Rattle.cr_phase4.specs.Preprocessing.{preprocessed}
+use Rattle.cr_phase4.specs.Search.{world_of}
+use Rattle.cr_phase4.specs.Traces.{trace_of}
 use Rattle.cr_preproc.specs.Progressing.{state_of, joined, traced}
 use Rattle.cr_preproc.specs.Expanding.{end_by}
 use Rattle.cr_preproc.specs.Leading.{Leads}
@@ -38,35 +38,30 @@ goes_by_the_definition unit old new files first p n fresh run =
     let l = reached unit old new files first p n fresh run in
     record { events = l.events; so_far = sym (fresh.left files) ∙ l.goes; made = made unit old new first p n _ _ fresh l }
 
--- with steps that lead to the end
-last : (unit : Unit) (old new : Text) (files : List KnownFile) (first p q : Preproc) (n k : ℕ) (end : Reply Nothing) → IsFresh unit old new first → Run files first n p → Leads k p.progress q.progress (left_of files p) end
-    → (events : List Event) × (preprocessed (world_of files) unit ≡ behind events end) × AreMade old new (n + k) q events
-last unit old new files first p q n k end fresh run l =
-    let all = leads_then n k first.progress p.progress q.progress (left_of files first) (left_of files p) end fresh.progress (reached unit old new files first p n fresh run) l in
-    (all.events, sym (fresh.left files) ∙ all.goes, made unit old new first q (n + k) _ _ fresh all)
-
--- where that makes no step
-as_many : (old new : Text) (q : Preproc) (n : ℕ) (events : List Event) → AreMade old new (n + 0) q events → AreMade old new n q events
-as_many old new q n events m = let same : n + 0 ≡ n = omega arith in subst (λ k. AreMade old new k q events) same m
+-- with what leads to the end
+last : (unit : Unit) (old new : Text) (files : List KnownFile) (first p q : Preproc) (n : ℕ) (end : Reply Nothing) → IsFresh unit old new first → Run files first n p → Leads 0 p.progress q.progress (left_of files p) end
+    → (events : List Event) × (preprocessed (world_of files) unit ≡ behind events end) × AreMade old new n q events
+last unit old new files first p q n end fresh run l =
+    let all = leads_then n 0 first.progress p.progress q.progress (left_of files first) (left_of files p) end fresh.progress (reached unit old new files first p n fresh run) l in
+    let same : n + 0 ≡ n = omega arith in
+    (all.events, sym (fresh.left files) ∙ all.goes, subst (λ k. AreMade old new k q all.events) same (made unit old new first q (n + 0) _ _ fresh all))
 
 pub ends_by_the_definition : EndsByTheDefinition
 ends_by_the_definition unit old new files first p q n fresh run = (
   (λ s.
-      let l = last unit old new files first p q n 0 (left_of files q) fresh run s.leads.1 in (
+      let l = last unit old new files first p q n (left_of files q) fresh run s.leads.1 in (
         state_of q.progress,
         l.0,
         l.1 ∙ ap (λ e. behind l.0 (left_by (world_of files) files q e)) s.leads.0 ∙ ap (Goes Done (state_of q.progress)) (append-nil l.0),
-        as_many old new q n l.0 l.2,
+        l.2,
       )),
   (λ fault s.
-      let l = last unit old new files first p q n s.leads.1 (left_of files q) fresh run s.leads.3 in (
-        s.leads.1,
-        s.leads.2,
+      let l = last unit old new files first p q n (left_of files q) fresh run s.leads.1 in (
         l.0,
         l.1 ∙ ap (λ e. behind l.0 (left_by (world_of files) files q e)) s.leads.0 ∙ ap (Ends (end_by fault)) (append-nil l.0),
         l.2,
       )),
   (λ paths s.
-      let l = last unit old new files first p q n 0 (Ends (Needs paths.items) []) fresh run s.leads.0 in
-      (l.0, l.1 ∙ ap (Ends (Needs paths.items)) (append-nil l.0), as_many old new q n l.0 l.2)),
+      let l = last unit old new files first p q n (Ends (Needs paths.items) []) fresh run s.leads.0 in
+      (l.0, l.1 ∙ ap (Ends (Needs paths.items)) (append-nil l.0), l.2)),
 )

@@ -1,5 +1,5 @@
 -- Turns one after another, up to a step or the unit's end.
-use Rattle.std.proofs.Common.{◌≡◌, ℕ, ◌+◌, List, [], refl, sym, ap, ◌∙◌, subst, arith, Option, Some, None, inl}
+use Rattle.std.proofs.Common.{◌≡◌, ◌<◌, ◌^◌, List, [], length, refl, sym, ap, ◌∙◌, subst, Option, Some, None}
 use Rattle.std.specs.Prelude.{Vec, Result, Ok, IfOk}
 use Rattle.cr_base.specs.declared.memory.OutOfMemory.{OutOfMemory}
 use Rattle.std.specs.declared.alloc.Global.{Global}
@@ -17,26 +17,24 @@ use Rattle.cr_preproc.specs.declared.preproc.PreTurn.TheVariants as pre
 use Rattle.cr_preproc.specs.declared.preproc.Preproc.{Preproc}
 use Rattle.cr_preproc.specs.declared.turning.Turned.{Turned}
 use Rattle.cr_preproc.specs.declared.turning.Turned.TheVariants as turned
-use Rattle.cr_preproc.specs.Tasks.{Needs, Reply, Goes, Ends, Task, Nothing, Done}
-use Rattle.cr_preproc.specs.Search.{World, world_of}
+use Rattle.cr_phase4.specs.Tasks.{Needs, Reply, Goes, Ends, Task, Nothing, Done}
+use Rattle.cr_phase4.specs.Search.{World, world_of}
 use Rattle.cr_preproc.specs.Progressing.{state_of, IsProgress}
 use Rattle.cr_preproc.specs.Leading.{Leads}
 use Rattle.cr_preproc.specs.Turning.{IsOpened, IsWorking}
-use Rattle.cr_preproc.specs.Preprocs.{firsts_left, going_left, left_by, left_of, IsOuter, AreOpen, IsGoing, IsPreproc, IsSameUnit, IsOfSearch, IsUncounted, TurnLeads, IsTurn, IsPreStep, IsSilent, answer_of, path_of}
+use Rattle.cr_preproc.specs.Preprocs.{firsts_left, going_left, left_by, left_of, IsOuter, AreOpen, IsGoing, IsSound, HasRoom, IsSameUnit, IsOfSearch, TurnLeads, IsTurn, IsPreStep, IsSilent, answer_of, path_of}
 use Rattle.cr_preproc.proofs.Leadings.{leads_same, leads_then, leads_from}
 
-pub going_is : (files : List KnownFile) (p : Preproc) → p.ending ≡ None → IsPreproc files p → IsProgress p.progress × AreOpen files p p.file
+pub going_is : (files : List KnownFile) (p : Preproc) → p.ending ≡ None → IsSound files p → IsProgress p.progress × AreOpen files p p.file
 going_is files p e good = subst (IsGoing files p) e good
 
 -- the file that is worked on, and those around it
-pub working_is : (files : List KnownFile) (p : Preproc) (f : OpenFile) → p.ending ≡ None → p.file ≡ Some f → IsPreproc files p → IsWorking files p.progress f p.doing × IsOuter files p.progress.names p.outer.items
+pub working_is : (files : List KnownFile) (p : Preproc) (f : OpenFile) → p.ending ≡ None → p.file ≡ Some f → IsSound files p → IsWorking files p.progress f p.doing × IsOuter files p.progress.names p.outer.items
 working_is files p f e h good = subst (AreOpen files p) h (going_is files p e good).1
 
 -- all is opened and read
-pub done_turn : (files : List KnownFile) (p : Preproc) → p.ending ≡ None → p.file ≡ None → path_of p.unit p.firsts ≡ None → IsPreproc files p → TurnLeads files p (record p { ending = Some ending.Done }) None
+pub done_turn : (files : List KnownFile) (p : Preproc) → p.ending ≡ None → p.file ≡ None → path_of p.unit p.firsts ≡ None → IsSound files p → TurnLeads files p (record p { ending = Some ending.Done }) None
 done_turn files p e h f good = (
-  0,
-  refl,
   leads_from 0 p.progress p.progress _ _ _ (ap (left_by (world_of files) files p) e ∙ ap (going_left (world_of files) files p) h ∙ nothing p.firsts f) (leads_same p.progress (Goes Done (state_of p.progress) [])),
   (going_is files p e good).0,
 ) where
@@ -63,20 +61,22 @@ same_but_progress p q e h = record {
   ending = ap (λ x. x.ending) h ∙ e;
 }
 
-pub silent_begins : (files : List KnownFile) (p : Preproc) → IsPreproc files p → p.ending ≡ None → IsSilent files p p
-silent_begins files p good e = record { leads = leads_same p.progress (left_of files p); good = good; going = e }
+-- there is room, however the unit goes on
+pub has_room : (names : List Text) (end : Option Ending) → length names < 2 ^ 31 → HasRoom names end
+has_room names None h = h
+has_room names (Some ending.Done) h = h
+has_room names (Some (ending.Ill fault)) h = h
+has_room names (Some ending.OutOfMemory) h = tt
 
--- so many steps more, where there were none before
-leads_behind : (n : ℕ) (p q u : Progress) (r s t : Reply Nothing) → IsProgress p → Leads 0 p q r s → Leads n q u s t → Leads n p u r t
-leads_behind n p q u r s t good h l = let same : 0 + n ≡ n = omega arith in subst (λ k. Leads k p u r t) same (leads_then 0 n p q u r s t good h l)
+pub room_is : (names : List Text) (end : Option Ending) → end ≡ None → HasRoom names end → length names < 2 ^ 31
+room_is names end e h = subst (HasRoom names) e h
 
--- a turn that ends a unit in no fault, or doesn't end it, makes no step
-leads_none : (files : List KnownFile) (q r : Preproc) (end : Option Ending) (t : IsTurn files q r None) → r.ending ≡ end → ((n : ℕ) → IsUncounted n end → n ≡ 0) → Leads 0 q.progress r.progress (left_of files q) (left_of files r)
-leads_none files q r end t e none = subst (λ n. Leads n q.progress r.progress (left_of files q) (left_of files r)) (none t.leads.0 (subst (IsUncounted t.leads.0) e t.leads.1)) t.leads.2
+pub silent_begins : (files : List KnownFile) (p : Preproc) → IsSound files p → p.ending ≡ None → IsSilent files p p
+silent_begins files p good e = record { leads = leads_same p.progress (left_of files p); sound = good; going = e }
 
 module _ (files : List KnownFile) (p q r : Preproc) (start : IsProgress p.progress) (s : IsSilent files p q) where
   pub silent_turn : IsTurn files q r None → r.ending ≡ None → IsSilent files p r
-  silent_turn t e = record { leads = leads_then 0 0 p.progress q.progress r.progress _ _ _ start s.leads (leads_none files q r None t e (λ n h. h)); good = t.leads.3; going = e }
+  silent_turn t e = record { leads = leads_then 0 0 p.progress q.progress r.progress _ _ _ start s.leads t.leads.0; sound = t.leads.1; going = e }
 
   pub silent_more : p.ending ≡ None → IsTurn files q r (Some pre.More) → IsPreStep files p r pre.More
   silent_more e t = record { leads = (e, leads_then 0 1 p.progress q.progress r.progress _ _ _ start s.leads t.leads.0) }
@@ -89,10 +89,10 @@ module _ (files : List KnownFile) (p q r : Preproc) (start : IsProgress p.progre
   pub silent_ends : (end : Ending) (answer : PreTurn) → IsTurn files q r None → r.ending ≡ Some end → answer_of end ≡ Ok answer → IsPreStep files p r answer
   silent_ends ending.Done answer t e a =
       let same : pre.Done ≡ answer = cc in
-      subst (IsPreStep files p r) same (record { leads = (e, leads_then 0 0 p.progress q.progress r.progress _ _ _ start s.leads (leads_none files q r (Some ending.Done) t e (λ n h. h))) })
+      subst (IsPreStep files p r) same (record { leads = (e, leads_then 0 0 p.progress q.progress r.progress _ _ _ start s.leads t.leads.0) })
   silent_ends (ending.Ill fault) answer t e a =
       let same : pre.Ill fault.cause fault.place ≡ answer = cc in
-      subst (IsPreStep files p r) same (record { leads = (e, t.leads.0, subst (IsUncounted t.leads.0) e t.leads.1, leads_behind t.leads.0 p.progress q.progress r.progress _ _ _ start s.leads t.leads.2) })
+      subst (IsPreStep files p r) same (record { leads = (e, leads_then 0 0 p.progress q.progress r.progress _ _ _ start s.leads t.leads.0) })
   silent_ends ending.OutOfMemory answer t e a = absurd (let no : ⊥ = cc in no)
 
   -- the answer where a turn has ended the unit
@@ -111,12 +111,12 @@ module _ (files : List KnownFile) (p q r : Preproc) (start : IsProgress p.progre
 -- where a unit has ended it answers so
 pub ended_step : (files : List KnownFile) (p : Preproc) (end : Ending) (answer : PreTurn) → p.ending ≡ Some end → answer_of end ≡ Ok answer → IsPreStep files p p answer
 ended_step files p ending.Done answer e a = let same : pre.Done ≡ answer = cc in subst (IsPreStep files p p) same (record { leads = (e, leads_same p.progress (left_of files p)) })
-ended_step files p (ending.Ill fault) answer e a = let same : pre.Ill fault.cause fault.place ≡ answer = cc in subst (IsPreStep files p p) same (record { leads = (e, 0, inl refl, leads_same p.progress (left_of files p)) })
+ended_step files p (ending.Ill fault) answer e a = let same : pre.Ill fault.cause fault.place ≡ answer = cc in subst (IsPreStep files p p) same (record { leads = (e, leads_same p.progress (left_of files p)) })
 ended_step files p ending.OutOfMemory answer e a = absurd (let no : ⊥ = cc in no)
 
 -- the units after such turns are good
-pub good_more : (files : List KnownFile) (q r : Preproc) → IsTurn files q r (Some pre.More) → IsPreproc files r
+pub good_more : (files : List KnownFile) (q r : Preproc) → IsTurn files q r (Some pre.More) → IsSound files r
 good_more files q r t = t.leads.1
 
-pub good_needs : (files : List KnownFile) (q r : Preproc) (paths : Vec Text Global) → IsPreproc files q → IsTurn files q r (Some (pre.Needs paths)) → IsPreproc files r
-good_needs files q r paths good t = subst (IsPreproc files) (sym t.leads.1) good
+pub good_needs : (files : List KnownFile) (q r : Preproc) (paths : Vec Text Global) → IsSound files q → IsTurn files q r (Some (pre.Needs paths)) → IsSound files r
+good_needs files q r paths good t = subst (IsSound files) (sym t.leads.1) good

@@ -18,13 +18,13 @@ use Rattle.cr_preproc.specs.declared.preproc.Preproc.{Preproc}
 use Rattle.cr_preproc.specs.declared.turning.Doing.{Doing}
 use Rattle.cr_preproc.specs.declared.turning.Doing.TheVariants as doing
 use Rattle.cr_preproc.specs.declared.turning.Turned.TheVariants as turned
-use Rattle.cr_preproc.specs.Tasks.{Task, Nothing, ◌>>>◌}
-use Rattle.cr_preproc.specs.Search.{World, world_of}
+use Rattle.cr_phase4.specs.Tasks.{Task, Nothing, ◌>>>◌}
+use Rattle.cr_phase4.specs.Search.{World, world_of}
 use Rattle.cr_preproc.specs.OpenFiles.{reads_file, reading_of}
 use Rattle.cr_preproc.specs.Progressing.{state_of, IsProgress}
 use Rattle.cr_preproc.specs.Leading.{Leads}
 use Rattle.cr_preproc.specs.Turning.{doing_left, IsWorking, IsDoing, IsTurned}
-use Rattle.cr_preproc.specs.Preprocs.{files_left, going_left, left_by, left_of, IsOuter, AreOpen, IsGoing, IsPreproc, IsSameUnit, IsUncounted, TurnLeads}
+use Rattle.cr_preproc.specs.Preprocs.{files_left, going_left, left_by, left_of, IsOuter, AreOpen, IsGoing, IsSound, IsSameUnit, TurnLeads}
 use Rattle.cr_preproc.proofs.OpenLater.{reading_later, open_later}
 use Rattle.cr_preproc.proofs.Leadings.{leads_from, leads_to}
 
@@ -59,15 +59,11 @@ pub left_going : (files : List KnownFile) (p : Preproc) (f : OpenFile) → p.end
     → left_of files p ≡ doing_left (world_of files) p.unit p.progress (reading_of p.progress.names files f) (behind_file files p) p.doing
 left_going files p f e h = ap (left_by (world_of files) files p) e ∙ ap (going_left (world_of files) files p) h
 
-pub good_going : (files : List KnownFile) (p : Preproc) (f : OpenFile) → p.ending ≡ None → p.file ≡ Some f → IsWorking files p.progress f p.doing → IsOuter files p.progress.names p.outer.items → IsPreproc files p
+pub good_going : (files : List KnownFile) (p : Preproc) (f : OpenFile) → p.ending ≡ None → p.file ≡ Some f → IsWorking files p.progress f p.doing → IsOuter files p.progress.names p.outer.items → IsSound files p
 good_going files p f e h w o = subst (IsGoing files p) (sym e) (w.progress, subst (AreOpen files p) (sym h) (w, o))
 
-pub good_none : (files : List KnownFile) (p : Preproc) → p.ending ≡ None → p.file ≡ None → IsProgress p.progress → p.doing ≡ doing.Reads → p.outer.items ≡ [] → IsPreproc files p
+pub good_none : (files : List KnownFile) (p : Preproc) → p.ending ≡ None → p.file ≡ None → IsProgress p.progress → p.doing ≡ doing.Reads → p.outer.items ≡ [] → IsSound files p
 good_none files p e h g d o = subst (IsGoing files p) (sym e) (g, subst (AreOpen files p) (sym h) (d, o))
-
--- a turn that doesn't end the unit, and isn't answered as a step, makes none
-pub uncounted : (q : Preproc) → q.ending ≡ None → IsUncounted 0 q.ending
-uncounted q e = subst (IsUncounted 0) (sym e) refl
 
 -- the unit as a turn in its innermost file left it
 module _ (files : List KnownFile) (p q : Preproc) (f g : OpenFile) (same : IsSameUnit p q) (pf : p.file ≡ Some f) (qf : q.file ≡ Some g) (outer : IsOuter files p.progress.names p.outer.items) where
@@ -89,7 +85,7 @@ module _ (files : List KnownFile) (p q : Preproc) (f g : OpenFile) (same : IsSam
   left_p = left_going files p f same.going pf
 
   goes_on : (n : ℕ) → ((k : Task Nothing) → Leads n p.progress q.progress (doing_left W p.unit p.progress (reading_of p.progress.names files f) k p.doing) (doing_left W p.unit q.progress (reading_of q.progress.names files g) k q.doing)) × IsWorking files q.progress g q.doing
-      → Leads n p.progress q.progress (left_of files p) (left_of files q) × IsPreproc files q
+      → Leads n p.progress q.progress (left_of files p) (left_of files q) × IsSound files q
   goes_on n h =
       let l = h.0 (behind_file files p) in (
         leads_from n p.progress q.progress _ _ _ left_p
@@ -104,7 +100,7 @@ module _ (files : List KnownFile) (p q : Preproc) (f g : OpenFile) (same : IsSam
   steps_turn h = goes_on 1 h
 
   pub goes_turn : IsTurned W p.unit files p.progress q.progress f g p.doing q.doing turned.Goes → TurnLeads files p q None
-  goes_turn h = let r = goes_on 0 h in (0, uncounted q same.ending, r.0, r.1)
+  goes_turn h = goes_on 0 h
 
   pub needs_turn : (paths : Vec Text Global) → IsTurned W p.unit files p.progress q.progress f g p.doing q.doing (turned.Needs paths) → TurnLeads files p q (Some (pre.Needs paths))
   needs_turn paths h = (
@@ -117,7 +113,7 @@ module _ (files : List KnownFile) (p q : Preproc) (f g : OpenFile) (same : IsSam
     equal a b c d e f g h = cc
 
   pub ends_turn : (fault : Fault) → IsTurned W p.unit files p.progress q.progress f g p.doing q.doing (turned.Ends fault) → TurnLeads files p (record q { ending = Some (ending.Ill fault) }) None
-  ends_turn fault h = (h.0, h.1, leads_from h.0 p.progress q.progress _ _ _ left_p (h.2 (behind_file files p)), h.3)
+  ends_turn fault h = (leads_from 0 p.progress q.progress _ _ _ left_p (h.0 (behind_file files p)), h.1)
 
   opens_now : (h : OpenFile) (outer1 : Vec OpenFile Global) → outer1.items ≡ q.outer.items ++ g ∷ [] → IsTurned W p.unit files p.progress q.progress f g p.doing q.doing (turned.Opens h)
       → TurnLeads files p (record q { file = Some h; outer = outer1 }) None
@@ -131,8 +127,6 @@ module _ (files : List KnownFile) (p q : Preproc) (f g : OpenFile) (same : IsSam
       ∙ ap (λ l. (reads_file W q.unit (reading_of q.progress.names files h) >>> λ n. files_left W q.unit q.progress.names files q.firsts l) (state_of q.progress)) back
       ∙ ap (λ u. (reads_file W u (reading_of q.progress.names files h) >>> λ n. reads_file W u (reading_of q.progress.names files g) >>> λ n. behind_file files q) (state_of q.progress)) same.unit
       ∙ ap (λ k. (reads_file W p.unit (reading_of q.progress.names files h) >>> λ n. reads_file W p.unit (reading_of q.progress.names files g) >>> λ n. k) (state_of q.progress)) (behind_same l.told.names) in (
-        0,
-        uncounted now same.ending,
         leads_from 0 p.progress q.progress _ _ _ left_p (leads_to 0 p.progress q.progress _ _ _ (sym left) l),
         good_going files now h same.ending refl
             (record { progress = t.1; file = t.3; line = fits h t.6 t.1.reading; does = subst (IsDoing q.progress h) (sym t.4) tt })
@@ -156,7 +150,7 @@ module _ (files : List KnownFile) (p q : Preproc) (f g : OpenFile) (same : IsSam
       ap (left_by W files now) same.ending
       ∙ ap (λ o. files_left W q.unit q.progress.names files q.firsts o (state_of q.progress)) (sym (ap reverse none))
       ∙ ap (λ k. k (state_of q.progress)) (behind_same l.told.names) in
-      (0, uncounted now same.ending, leads_from 0 p.progress q.progress _ _ _ left_p (leads_to 0 p.progress q.progress _ _ _ (sym left) l), good_none files now same.ending refl t.1 refl (n refl))
+      (leads_from 0 p.progress q.progress _ _ _ left_p (leads_to 0 p.progress q.progress _ _ _ (sym left) l), good_none files now same.ending refl t.1 refl (n refl))
   closes_turn (Some x) outer1 e n t =
       let l = t.0 (behind_file files p) in
       let now : Preproc = record q { file = Some x; outer = outer1; doing = doing.Reads } in
@@ -166,8 +160,6 @@ module _ (files : List KnownFile) (p q : Preproc) (f g : OpenFile) (same : IsSam
       ∙ ap (λ o. files_left W q.unit q.progress.names files q.firsts o (state_of q.progress)) (sym back)
       ∙ ap (λ k. k (state_of q.progress)) (behind_same l.told.names) in
       let both = outer_split files q.progress.names outer1.items (x ∷ []) (subst (IsOuter files q.progress.names) e (outer_now l.told.names)) in (
-        0,
-        uncounted now same.ending,
         leads_from 0 p.progress q.progress _ _ _ left_p (leads_to 0 p.progress q.progress _ _ _ (sym left) l),
         good_going files now x same.ending refl (record { progress = t.1; file = both.1.0.0; line = fits both.1.0.1 t.1.reading; does = tt }) both.0,
       ) where

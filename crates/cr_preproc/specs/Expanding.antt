@@ -22,8 +22,8 @@ use Rattle.cr_preproc.specs.declared.expansion.Use.TheVariants as use1
 use Rattle.cr_preproc.specs.declared.progress.Progress.{Progress}
 use Rattle.cr_preproc.specs.declared.trace.Trace.{Trace}
 use Rattle.cr_macros.specs.declared.macros.Seen.{Seen}
-use Rattle.cr_preproc.specs.Traces.{opaque_place}
-use Rattle.cr_preproc.specs.Tasks.{End, Ill, Over, Tokens, Macros, Reading, Includes, Told, end_of, told_by_uses}
+use Rattle.cr_phase4.specs.Traces.{opaque_place}
+use Rattle.cr_phase4.specs.Tasks.{End, Ill, Over, Tokens, Macros, Reading, Includes, Told, end_of, told_by_uses}
 use Rattle.cr_preproc.specs.Progressing.{IsTold}
 
 -- what the expansion gives, and what it gives next

@@ -29,13 +29,14 @@ then_rank then.Close = 1
 then_rank (then.Fails f) = 1
 
 -- What is done in an open file has a rank, and what follows without a step has a lower one: a line is read, its run is
--- expanded or its condition decided, its include is expanded, its file is looked for, the next line is read, the file ends.
+-- expanded or its condition decided, its include is expanded, its file is looked for, the next line is read, the file ends, the unit ends.
 abbrev pub rank : OpenFile → Doing → ℕ
 rank f doing.Reads = line_rank f.line.items
 rank f (doing.Expands e next) = then_rank next
 rank f (doing.Decides e given d hash) = 5
 rank f (doing.Includes e given hash) = 4
 rank f (doing.Looks paths site) = 3
+rank f (doing.Fails fault) = 0
 
 -- What falls with a turn without a step: what is done next has a lower rank, or the file is closed, or a file is opened, which
 -- was counted as read; and no more may be read than before.

@@ -2,12 +2,12 @@
 use Rattle.std.specs.Prelude.{◌≡◌, ℕ, suc, Bool, if◌then◌else◌, List, [], ◌∷◌, Option}
 use Rattle.cr_base.specs.declared.unit.Unit.{Unit}
 use Rattle.cr_macros.specs.Tokens.{Text, Token}
-use Rattle.cr_preproc.specs.declared.open_ifs.OpenIf.{OpenIf}
-use Rattle.cr_preproc.specs.Tasks.{End, Opened, Event, State, Reply, Task, Nothing, behind, ◌>>>◌, ready, tell, reads}
-use Rattle.cr_preproc.specs.Lines.{File}
-use Rattle.cr_preproc.specs.Search.{World}
-use Rattle.cr_preproc.specs.Preprocessing.{does_lines, does_file, does_first_file, preprocessed}
-use Rattle.cr_preproc.specs.PreprocessingRun.{Agrees}
+use Rattle.cr_phase4.specs.declared.conditionals.OpenIf.{OpenIf}
+use Rattle.cr_phase4.specs.Tasks.{End, Opened, Event, State, Reply, Task, Nothing, behind, ◌>>>◌, ready, tell, reads}
+use Rattle.cr_phase4.specs.Lines.{File}
+use Rattle.cr_phase4.specs.Search.{World}
+use Rattle.cr_phase4.specs.Preprocessing.{does_lines, does_file, does_first_file, preprocessed}
+use Rattle.cr_phase4.specs.PreprocessingRun.{Agrees}
 
 -- An open file: how many levels of includes may still be open in it, its path, the lines that are left with the fault
 -- behind them, and the open conditionals and the run so far.

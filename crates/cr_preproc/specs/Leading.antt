@@ -13,15 +13,15 @@ use Rattle.cr_preproc.specs.declared.conditional.Led.TheVariants as led
 use Rattle.cr_preproc.specs.declared.directing.Directed.{Directed}
 use Rattle.cr_preproc.specs.declared.directing.Directed.TheVariants as directed
 use Rattle.cr_preproc.specs.declared.expansion.Fault.{Fault}
-use Rattle.cr_preproc.specs.declared.open_ifs.OpenIf.{OpenIf}
+use Rattle.cr_phase4.specs.declared.conditionals.OpenIf.{OpenIf}
 use Rattle.cr_preproc.specs.declared.progress.Progress.{Progress}
-use Rattle.cr_preproc.specs.Tasks.{Event, State, Reply, Goes, Ends, Task, Nothing, Done, behind, go_on, ◌>>>◌, only, ready, tell, marks, gives, from_answer, at_place, in_directive}
-use Rattle.cr_preproc.specs.PreprocessingRun.{steps}
-use Rattle.cr_preproc.specs.Search.{World}
-use Rattle.cr_preproc.specs.Runs.{run_in, expands}
-use Rattle.cr_preproc.specs.Conditionals.{group_if, opened, is_true, list_value}
+use Rattle.cr_phase4.specs.Tasks.{Event, State, Reply, Goes, Ends, Task, Nothing, Done, behind, go_on, ◌>>>◌, only, ready, tell, marks, gives, from_answer, at_place, in_directive}
+use Rattle.cr_phase4.specs.PreprocessingRun.{steps}
+use Rattle.cr_phase4.specs.Search.{World}
+use Rattle.cr_phase4.specs.Runs.{run_in, expands}
+use Rattle.cr_phase4.specs.Conditionals.{group_if, opened, is_true, list_value}
 use Rattle.cr_preproc.specs.OpenIfs.{with_group}
-use Rattle.cr_preproc.specs.Directives.{Opening, all_marks, header_name, includes_expanded, opens}
+use Rattle.cr_phase4.specs.Directives.{Opening, all_marks, header_name, includes_expanded, opens}
 use Rattle.cr_preproc.specs.Progressing.{state_of, IsTold}
 use Rattle.cr_preproc.specs.Expanding.{end_by}
 use Rattle.cr_preproc.specs.Seen.{AreNamed}

@@ -1,16 +1,6 @@
-pub mod Tasks
-pub mod Lines
-pub mod Definition
-pub mod Search
-pub mod Runs
-pub mod Conditionals
-pub mod Directives
-pub mod Preprocessing
-pub mod PreprocessingRun
 pub mod Seen
 pub mod OpenIfs
 pub mod Readers
-pub mod Traces
 pub mod Words
 pub mod Truths
 pub mod Frames

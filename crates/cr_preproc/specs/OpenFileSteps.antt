@@ -7,7 +7,7 @@ use Rattle.cr_macros.specs.Tokens.{Text}
 use Rattle.cr_preproc.specs.declared.open_file.OpenFile.{OpenFile}
 use Rattle.cr_preproc.specs.declared.reader.Coming.{Coming}
 use Rattle.cr_preproc.specs.declared.reader.Coming.TheVariants as coming
-use Rattle.cr_preproc.specs.Lines.{token_in}
+use Rattle.cr_phase4.specs.Lines.{token_in}
 use Rattle.cr_preproc.specs.Readers.{is_at_line_end}
 use Rattle.cr_preproc.specs.OpenFiles.{Reading, line_left}
 

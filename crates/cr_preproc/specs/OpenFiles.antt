@@ -12,11 +12,11 @@ use Rattle.cr_snapshot.specs.declared.known.KnownFile.{KnownFile}
 use Rattle.cr_snapshot.specs.Files.{Finding, Present, Absent, Unknown, finding}
 use Rattle.cr_expand.specs.Held.{IsNamed as IsNameKnown}
 use Rattle.cr_preproc.specs.declared.open_file.OpenFile.{OpenFile}
-use Rattle.cr_preproc.specs.declared.open_ifs.OpenIf.{OpenIf}
-use Rattle.cr_preproc.specs.Tasks.{Task, Nothing, ◌>>>◌}
-use Rattle.cr_preproc.specs.Lines.{token_in, lines_of, fault_of, line_of}
-use Rattle.cr_preproc.specs.Search.{World}
-use Rattle.cr_preproc.specs.Preprocessing.{does_file, does_lines, by_line, takes_rest}
+use Rattle.cr_phase4.specs.declared.conditionals.OpenIf.{OpenIf}
+use Rattle.cr_phase4.specs.Tasks.{Task, Nothing, ◌>>>◌}
+use Rattle.cr_phase4.specs.Lines.{token_in, lines_of, fault_of, line_of}
+use Rattle.cr_phase4.specs.Search.{World}
+use Rattle.cr_phase4.specs.Preprocessing.{does_file, does_lines, by_line, takes_rest}
 use Rattle.cr_preproc.specs.Readers.{IsReading, reading}
 use Rattle.cr_preproc.specs.Seen.{AreNamed}
 

@@ -3,13 +3,13 @@ use Rattle.std.specs.Prelude.{List, [], ◌∷◌, Option, Some, None}
 use Rattle.cr_base.specs.declared.token.Place.{Place}
 use Rattle.cr_base.specs.declared.cause.IllCause.TheVariants as cause
 use Rattle.cr_macros.specs.Tokens.{Text, Token}
-use Rattle.cr_preproc.specs.declared.open_ifs.Group.{Group}
-use Rattle.cr_preproc.specs.declared.open_ifs.Group.TheVariants.{Past}
-use Rattle.cr_preproc.specs.declared.open_ifs.OpenIf.{OpenIf}
+use Rattle.cr_phase4.specs.declared.conditionals.Group.{Group}
+use Rattle.cr_phase4.specs.declared.conditionals.Group.TheVariants.{Past}
+use Rattle.cr_phase4.specs.declared.conditionals.OpenIf.{OpenIf}
 use Rattle.cr_preproc.specs.declared.open_ifs.Elif.{Elif}
 use Rattle.cr_preproc.specs.declared.open_ifs.Elif.TheVariants as elif
-use Rattle.cr_preproc.specs.Tasks.{Task, Ill, ◌>>>◌, only, ends}
-use Rattle.cr_preproc.specs.Conditionals.{condition, group_if}
+use Rattle.cr_phase4.specs.Tasks.{Task, Ill, ◌>>>◌, only, ends}
+use Rattle.cr_phase4.specs.Conditionals.{condition, group_if}
 
 abbrev pub first_of : List OpenIf → Option OpenIf
 first_of [] = None

@@ -1,5 +1,5 @@
 -- A unit that is preprocessed step by step: what is left of it, and what a run of steps gives.
-use Rattle.std.specs.Prelude.{◌≡◌, ℕ, suc, ◌+◌, List, [], ◌∷◌, map, reverse, Option, Some, None, Result, Ok, Err}
+use Rattle.std.specs.Prelude.{◌≡◌, ◌<◌, ◌^◌, ℕ, suc, ◌+◌, List, [], ◌∷◌, length, map, reverse, Option, Some, None, Result, Ok, Err}
 use Rattle.std.specs.List.{AllByRecursion}
 use Rattle.std.specs.Prelude.{Vec}
 use Rattle.std.specs.declared.alloc.Global.{Global}
@@ -21,16 +21,16 @@ use Rattle.cr_preproc.specs.declared.preproc.Preproc.{Preproc}
 use Rattle.cr_preproc.specs.declared.turning.Doing.TheVariants as doing
 use Rattle.cr_preproc.specs.declared.turning.Turned.{Turned}
 use Rattle.cr_preproc.specs.declared.turning.Turned.TheVariants as turned
-use Rattle.cr_preproc.specs.Tasks.{Needs, Event, State, Reply, Goes, Ends, Task, Nothing, Done, behind, ◌>>>◌, ready}
-use Rattle.cr_preproc.specs.PreprocessingRun.{steps, final_tokens}
-use Rattle.cr_preproc.specs.Search.{World, world_of, words_path}
-use Rattle.cr_preproc.specs.Preprocessing.{does_first_file, preprocessed}
-use Rattle.cr_preproc.specs.Traces.{trace_of}
+use Rattle.cr_phase4.specs.Tasks.{Needs, Event, State, Reply, Goes, Ends, Task, Nothing, Done, behind, ◌>>>◌, ready}
+use Rattle.cr_phase4.specs.PreprocessingRun.{steps, final_tokens}
+use Rattle.cr_phase4.specs.Search.{World, world_of, words_path}
+use Rattle.cr_phase4.specs.Preprocessing.{does_first_file, preprocessed}
+use Rattle.cr_phase4.specs.Traces.{trace_of}
 use Rattle.cr_preproc.specs.OpenFiles.{reads_file, reading_of, IsOpen}
 use Rattle.cr_preproc.specs.Progressing.{state_of, kept, IsProgress}
 use Rattle.cr_preproc.specs.Expanding.{ended_by, end_by}
 use Rattle.cr_preproc.specs.Leading.{Leads}
-use Rattle.cr_preproc.specs.Turning.{doing_left, IsLastTurn, IsWorking}
+use Rattle.cr_preproc.specs.Turning.{doing_left, IsWorking}
 
 -- the files that no include names and that are still to be opened
 abbrev pub firsts_left : World → Unit → Firsts → Task Nothing
@@ -79,8 +79,21 @@ IsGoing files p (Some ending.Done) = IsProgress p.progress
 IsGoing files p (Some (ending.Ill fault)) = IsProgress p.progress
 IsGoing files p (Some ending.OutOfMemory) = Prim.Unit {0}
 
-abbrev pub IsPreproc : List KnownFile → Preproc → Type 0
-IsPreproc files p = IsGoing files p p.ending
+abbrev pub IsSound : List KnownFile → Preproc → Type 0
+IsSound files p = IsGoing files p p.ending
+
+-- There is room in the table of names for what a step may put into it, and for the tokens behind it; of want of memory nothing
+-- is said.
+abbrev pub HasRoom : List Text → Option Ending → Type 0
+HasRoom names None = length names < 2 ^ 31
+HasRoom names (Some ending.Done) = length names < 2 ^ 31
+HasRoom names (Some (ending.Ill fault)) = length names < 2 ^ 31
+HasRoom names (Some ending.OutOfMemory) = Prim.Unit {0}
+
+-- A unit on which steps may be made.
+pub record IsPreproc (files : List KnownFile) (p : Preproc) : Type 0 where
+  pub sound : IsSound files p
+  pub room : HasRoom p.progress.names p.ending
 
 -- A unit of which nothing is preprocessed.
 pub record IsFresh (unit : Unit) (old new : Text) (p : Preproc) : Type 0 where
@@ -128,18 +141,10 @@ IsOfSearch (turned.Opens f) = Prim.Unit {0}
 IsOfSearch (turned.Needs paths) = Prim.Unit {0}
 IsOfSearch (turned.Ends fault) = Prim.Unit {0}
 
--- How many steps a turn makes that isn't answered as a step, by how the unit has ended behind it: none; but where that is over
--- its tokens, it may have used a rule.
-abbrev pub IsUncounted : ℕ → Option Ending → Type 0
-IsUncounted n None = n ≡ 0
-IsUncounted n (Some ending.Done) = n ≡ 0
-IsUncounted n (Some (ending.Ill fault)) = IsLastTurn n (end_by fault)
-IsUncounted n (Some ending.OutOfMemory) = n ≡ 0
-
 -- What a turn leads to: nothing but what is left, a step, or files that are wanted.
 abbrev pub TurnLeads : List KnownFile → Preproc → Preproc → Option PreTurn → Type 0
-TurnLeads files p q None = (n : ℕ) × IsUncounted n q.ending × Leads n p.progress q.progress (left_of files p) (left_of files q) × IsPreproc files q
-TurnLeads files p q (Some pre.More) = Leads 1 p.progress q.progress (left_of files p) (left_of files q) × IsPreproc files q
+TurnLeads files p q None = Leads 0 p.progress q.progress (left_of files p) (left_of files q) × IsSound files q
+TurnLeads files p q (Some pre.More) = Leads 1 p.progress q.progress (left_of files p) (left_of files q) × IsSound files q
 TurnLeads files p q (Some (pre.Needs paths)) = (left_of files p ≡ Ends (Needs paths.items) []) × (q ≡ p)
 TurnLeads files p q (Some pre.Done) = ⊥
 TurnLeads files p q (Some (pre.Ill why place)) = ⊥
@@ -154,7 +159,7 @@ StepLeads files p q (pre.Needs paths) = Leads {A = Nothing} 0 p.progress q.progr
 StepLeads files p q pre.Done = (q.ending ≡ Some ending.Done) × Leads 0 p.progress q.progress (left_of files p) (left_of files q)
 StepLeads files p q (pre.Ill why place) =
     (q.ending ≡ Some (ending.Ill (record { cause = why; place = place })))
-    × (n : ℕ) × IsLastTurn n (ended_by place why) × Leads n p.progress q.progress (left_of files p) (left_of files q)
+    × Leads 0 p.progress q.progress (left_of files p) (left_of files q)
 
 pub record IsPreStep (files : List KnownFile) (p q : Preproc) (turn : PreTurn) : Type 0 where
   pub leads : StepLeads files p q turn
@@ -162,8 +167,13 @@ pub record IsPreStep (files : List KnownFile) (p q : Preproc) (turn : PreTurn) :
 -- What happened from one state of a unit to another without a step, before it ended.
 pub record IsSilent (files : List KnownFile) (p q : Preproc) : Type 0 where
   pub leads : Leads 0 p.progress q.progress (left_of files p) (left_of files q)
-  pub good : IsPreproc files q
+  pub sound : IsSound files q
   pub going : q.ending ≡ None
+
+-- That happened, and there is room.
+pub record IsGoingOn (files : List KnownFile) (p q : Preproc) : Type 0 where
+  pub silent : IsSilent files p q
+  pub room : length q.progress.names < 2 ^ 31
 
 -- Steps that were made one after another, so many of them, where these files are known.
 pub data Run (files : List KnownFile) (first : Preproc) : ℕ → Preproc → Type 0 where
@@ -187,12 +197,11 @@ abbrev pub GoesByTheDefinition : Type 0
 GoesByTheDefinition =
     (unit : Unit) (old new : Text) (files : List KnownFile) (first p : Preproc) (n : ℕ) → IsFresh unit old new first → Run files first n p → Happened unit old new files n p
 
--- The whole of it is there at its end; and where it has a fault or wants files, so has the definition, after as many steps, or one
--- more where a rule gave a token for which there is no room.
+-- The whole of it is there at its end; and where it has a fault or wants files, so has the definition, after as many steps.
 abbrev pub EndsByTheDefinition : Type 0
 EndsByTheDefinition =
     (unit : Unit) (old new : Text) (files : List KnownFile) (first p q : Preproc) (n : ℕ) → IsFresh unit old new first → Run files first n p
     → (IsPreStep files p q pre.Done → (s : State) × (events : List Event) × (preprocessed (world_of files) unit ≡ Goes Done s events) × AreMade old new n q events)
     × ((fault : Fault) → IsPreStep files p q (pre.Ill fault.cause fault.place)
-    → (k : ℕ) × IsLastTurn k (end_by fault) × (events : List Event) × (preprocessed (world_of files) unit ≡ Ends (end_by fault) events) × AreMade old new (n + k) q events)
+    → (events : List Event) × (preprocessed (world_of files) unit ≡ Ends (end_by fault) events) × AreMade old new n q events)
     × ((paths : Vec Text Global) → IsPreStep files p q (pre.Needs paths) → (events : List Event) × (preprocessed (world_of files) unit ≡ Ends (Needs paths.items) events) × AreMade old new n q events)

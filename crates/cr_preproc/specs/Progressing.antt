@@ -15,11 +15,11 @@ use Rattle.cr_expand.specs.declared.machine.TheConstants.{LIMIT}
 use Rattle.cr_preproc.specs.declared.progress.Progress.{Progress}
 use Rattle.cr_preproc.specs.declared.progress.TheConstants.{MOST_TOKENS, MOST_READ}
 use Rattle.cr_preproc.specs.declared.trace.Trace.{Trace as KeptTrace}
-use Rattle.cr_preproc.specs.Tasks.{End, Event, Defined, State, Goes, Ends, Task}
-use Rattle.cr_preproc.specs.Definition.{Definition, parameters_of}
-use Rattle.cr_preproc.specs.Directives.{definition_marks}
-use Rattle.cr_preproc.specs.PreprocessingRun.{steps, final_tokens}
-use Rattle.cr_preproc.specs.Traces.{Trace, trace_of}
+use Rattle.cr_phase4.specs.Tasks.{End, Event, Defined, State, Goes, Ends, Task}
+use Rattle.cr_phase4.specs.Definition.{Definition, parameters_of}
+use Rattle.cr_phase4.specs.Directives.{definition_marks}
+use Rattle.cr_phase4.specs.PreprocessingRun.{steps, final_tokens}
+use Rattle.cr_phase4.specs.Traces.{Trace, trace_of}
 use Rattle.cr_preproc.specs.Seen.{AreNamed, AreMacrosNamed, macros_of}
 
 -- the state of the definitions

@@ -4,19 +4,19 @@ use Rattle.cr_base.specs.declared.token.PpTok.{PpTok}
 use Rattle.cr_macros.specs.Tokens.{Text, token_of}
 use Rattle.cr_preproc.specs.declared.progress.Progress.{Progress}
 use Rattle.cr_preproc.specs.declared.progress.TheConstants.{MOST_TOKENS}
-use Rattle.cr_preproc.specs.declared.turning.Turned.{Turned}
-use Rattle.cr_preproc.specs.declared.turning.Turned.TheVariants as turned
-use Rattle.cr_preproc.specs.Tasks.{Over, Tokens, Done, gives}
+use Rattle.cr_preproc.specs.declared.turning.Doing.{Doing}
+use Rattle.cr_preproc.specs.declared.turning.Doing.TheVariants as doing
+use Rattle.cr_phase4.specs.Tasks.{Over, Tokens, Done, gives}
 use Rattle.cr_preproc.specs.Progressing.{Did}
 use Rattle.cr_preproc.specs.Expanding.{end_by}
 
--- The token is a final one, whatever names are hidden from it, and nothing but the tokens and the trace is changed; or there
--- is no room for it.
-abbrev pub IsGiving : Progress → Progress → PpTok → Turned → Type 0
-IsGiving p q t turned.Steps =
-    ((hide : List Text) → Did 0 p q (gives (token_of p.names hide t ∷ [])) Done) × (q ≡ record p { tokens = q.tokens; trace = q.trace })
-IsGiving p q t (turned.Ends fault) = (length p.tokens.items ≡ MOST_TOKENS) × (q ≡ p) × (end_by fault ≡ Over Tokens)
-IsGiving p q t turned.Goes = ⊥
-IsGiving p q t turned.Closes = ⊥
-IsGiving p q t (turned.Opens h) = ⊥
-IsGiving p q t (turned.Needs paths) = ⊥
+-- The token is a final one, whatever names are hidden from it, nothing but the tokens and the trace is changed, and this is done
+-- next; or there is no room for it, and the unit ends.
+abbrev pub IsGiving : Progress → Progress → PpTok → Doing → Doing → Type 0
+IsGiving p q t next (doing.Expands e then) =
+    ((hide : List Text) → Did 0 p q (gives (token_of p.names hide t ∷ [])) Done) × (q ≡ record p { tokens = q.tokens; trace = q.trace }) × (doing.Expands e then ≡ next)
+IsGiving p q t next (doing.Fails fault) = (length p.tokens.items ≡ MOST_TOKENS) × (q ≡ p) × (end_by fault ≡ Over Tokens)
+IsGiving p q t next doing.Reads = ⊥
+IsGiving p q t next (doing.Decides e given d hash) = ⊥
+IsGiving p q t next (doing.Includes e given hash) = ⊥
+IsGiving p q t next (doing.Looks paths site) = ⊥

@@ -12,15 +12,15 @@ use Rattle.cr_preproc.specs.declared.search.Search.{Search}
 use Rattle.cr_preproc.specs.declared.search.Search.TheVariants as search
 use Rattle.cr_base.specs.declared.token.Name.{Name}
 use Rattle.cr_macros.specs.Definition.{text_of}
-use Rattle.cr_preproc.specs.Conditionals.{is_macro_of, piece_at, pieces, answered}
+use Rattle.cr_phase4.specs.Conditionals.{is_macro_of, piece_at, pieces, answered}
 use Rattle.cr_base.specs.declared.token.Origin.TheVariants.{At}
 use Rattle.cr_macros.specs.Definition.{starts_at}
 use Rattle.cr_macros.specs.declared.fault.ExpandFault.{ExpandFault}
 use Rattle.cr_macros.specs.declared.fault.ExpandFault.TheVariants as fault
-use Rattle.cr_preproc.specs.Definition.{Definition, definition}
-use Rattle.cr_preproc.specs.Lines as spec
-use Rattle.cr_preproc.specs.Directives as directives
-use Rattle.cr_preproc.specs.Search as searching
+use Rattle.cr_phase4.specs.Definition.{Definition, definition}
+use Rattle.cr_phase4.specs.Lines as spec
+use Rattle.cr_phase4.specs.Directives as directives
+use Rattle.cr_phase4.specs.Search as searching
 
 -- a line, where the table of names has these texts
 abbrev pub seen_line : List Text → Line → spec.Line

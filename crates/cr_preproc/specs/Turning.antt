@@ -1,5 +1,5 @@
 -- What is left while an open file is worked on, and what a turn does.
-use Rattle.std.specs.Prelude.{◌≡◌, ◌≤◌, ◌+◌, ◌⊎◌, ℕ, suc, if◌then◌else◌, List, [], length, Option, Some, None, Result, Ok, Err}
+use Rattle.std.specs.Prelude.{◌≡◌, ◌≤◌, ◌+◌, ℕ, suc, if◌then◌else◌, List, [], length, Option, Some, None, Result, Ok, Err}
 use Rattle.cr_base.specs.declared.cause.IllCause.TheVariants as cause
 use Rattle.cr_base.specs.declared.cause.Role.TheVariants.{Directive as InDirective}
 use Rattle.cr_base.specs.declared.unit.Unit.{Unit}
@@ -11,7 +11,7 @@ use Rattle.cr_preproc.specs.declared.conditional.Led.TheVariants as led
 use Rattle.cr_preproc.specs.declared.search.Search.{Search}
 use Rattle.cr_preproc.specs.declared.search.Search.TheVariants as search
 use Rattle.cr_preproc.specs.declared.open_file.OpenFile.{OpenFile}
-use Rattle.cr_preproc.specs.declared.open_ifs.OpenIf.{OpenIf}
+use Rattle.cr_phase4.specs.declared.conditionals.OpenIf.{OpenIf}
 use Rattle.cr_preproc.specs.declared.progress.Progress.{Progress}
 use Rattle.cr_preproc.specs.declared.turning.Then.{Then}
 use Rattle.cr_preproc.specs.declared.turning.Then.TheVariants as then
@@ -20,12 +20,12 @@ use Rattle.cr_preproc.specs.declared.turning.Doing.TheVariants as doing
 use Rattle.cr_preproc.specs.declared.turning.Turned.{Turned}
 use Rattle.cr_preproc.specs.declared.turning.Turned.TheVariants as turned
 use Rattle.cr_preproc.specs.declared.expansion.Fault.{Fault}
-use Rattle.cr_preproc.specs.Tasks.{State, End, Ill, Over, Tokens, Needs, Reply, Goes, Ends, Task, Nothing, Done, go_on, ◌>>>◌, ends, tell, marks, in_directive, events_of}
-use Rattle.cr_preproc.specs.Lines.{Line, Plain, Conditional, Directive, Empty, Wordless, line_of}
-use Rattle.cr_preproc.specs.Search.{World}
-use Rattle.cr_preproc.specs.Runs.{runs, expands, earlier, after_run, is_open_call}
-use Rattle.cr_preproc.specs.Directives.{Opening, opens, directive}
-use Rattle.cr_preproc.specs.Preprocessing.{does_file}
+use Rattle.cr_phase4.specs.Tasks.{State, End, Ill, Needs, Reply, Goes, Ends, Task, Nothing, Done, go_on, ◌>>>◌, ends, tell, marks, in_directive, events_of}
+use Rattle.cr_phase4.specs.Lines.{Line, Plain, Conditional, Directive, Empty, Wordless, line_of}
+use Rattle.cr_phase4.specs.Search.{World}
+use Rattle.cr_phase4.specs.Runs.{runs, expands, earlier, after_run, is_open_call}
+use Rattle.cr_phase4.specs.Directives.{Opening, opens, directive}
+use Rattle.cr_phase4.specs.Preprocessing.{does_file}
 use Rattle.cr_preproc.specs.OpenFiles.{Reading, reads_behind, reads_file, reading_of, IsOpen}
 use Rattle.cr_preproc.specs.Progressing.{state_of, IsProgress}
 use Rattle.cr_preproc.specs.Expanding.{IsExpanding, ahead_in, still_in, table_for, end_by}
@@ -62,6 +62,7 @@ doing_left w u p r k (doing.Includes e given hash) =
     go_on (list_left hash (state_of p) (tokens_of p.names given.items) (still_in p e) (includes_given w u (does_file w u r.levels) r.path hash))
     (λ d. file_goes w u r r.open_ifs [] >>> λ n. k)
 doing_left w u p r k (doing.Looks paths site) = (opens w (does_file w u r.levels) site paths.items >>> λ d. reads_file w u r >>> λ n. k) (state_of p)
+doing_left w u p r k (doing.Fails fault) = Ends (end_by fault) []
 
 -- the file is as it was, but that its line and its run are gone
 pub record IsEnded (f g : OpenFile) : Type 0 where
@@ -81,6 +82,7 @@ IsDoing p f (doing.Expands e next) = IsExpanding p e × (e.expander.machine.file
 IsDoing p f (doing.Decides e given d hash) = IsExpanding p e × (e.expander.machine.file ≡ f.literal) × AreNamed p.names given.items
 IsDoing p f (doing.Includes e given hash) = IsExpanding p e × (e.expander.machine.file ≡ f.literal) × AreNamed p.names given.items
 IsDoing p f (doing.Looks paths site) = f.line.items ≡ []
+IsDoing p f (doing.Fails fault) = Prim.Unit {0}
 
 -- An open file is read in the files that are known, and its line has no more tokens than were read.
 pub record IsWorking (files : List KnownFile) (p : Progress) (f : OpenFile) (d : Doing) : Type 0 where
@@ -88,11 +90,6 @@ pub record IsWorking (files : List KnownFile) (p : Progress) (f : OpenFile) (d :
   pub file : IsOpen p.names files f
   pub line : length f.line.items + p.reading ≤ 33554432
   pub does : IsDoing p f d
-
--- How many steps the turn makes that ends a unit so: none; or one, where a rule was used that gave a token for which there is
--- no room.
-abbrev pub IsLastTurn : ℕ → End → Type 0
-IsLastTurn n end = (n ≡ 0) ⊎ ((n ≡ 1) × (end ≡ Over Tokens))
 
 -- What a turn came to.
 abbrev pub IsTurned : World → Unit → List KnownFile → Progress → Progress → OpenFile → OpenFile → Doing → Doing → Turned → Type 0
@@ -109,7 +106,7 @@ IsTurned w u files p q f g d e (turned.Opens h) =
 IsTurned w u files p q f g d e (turned.Needs paths) =
     ((k : Task Nothing) → doing_left w u p (reading_of p.names files f) k d ≡ Ends (Needs paths.items) []) × (q ≡ p) × (g ≡ f) × (e ≡ d)
 IsTurned w u files p q f g d e (turned.Ends fault) =
-    (n : ℕ) × IsLastTurn n (end_by fault) × ((k : Task Nothing) → Leads {A = Nothing} n p q (doing_left w u p (reading_of p.names files f) k d) (Ends (end_by fault) [])) × IsProgress q
+    ((k : Task Nothing) → Leads {A = Nothing} 0 p q (doing_left w u p (reading_of p.names files f) k d) (Ends (end_by fault) [])) × IsProgress q
 
 -- how the unit ends where a run ends it so
 abbrev pub ended_behind : Then → End → End
@@ -175,6 +172,7 @@ LooksAt paths site doing.Reads = ⊥
 LooksAt paths site (doing.Expands e next) = ⊥
 LooksAt paths site (doing.Decides e given d hash) = ⊥
 LooksAt paths site (doing.Includes e given hash) = ⊥
+LooksAt paths site (doing.Fails fault) = ⊥
 
 -- a file that was found is no larger than a file may be
 abbrev pub IsSmall : Search → Type 0

@@ -7,10 +7,10 @@ use Rattle.cr_base.specs.declared.unit.Unit.{Unit}
 use Rattle.cr_macros.specs.Tokens.{Text, Token}
 use Rattle.cr_preproc.specs.declared.directive.Order.{Order}
 use Rattle.cr_preproc.specs.declared.directive.Order.TheVariants as order
-use Rattle.cr_preproc.specs.Tasks.{Ill, Task, Nothing, ◌>>>◌, ready, ends, tell}
-use Rattle.cr_preproc.specs.Definition.{definition, undefined_name}
-use Rattle.cr_preproc.specs.Search.{World}
-use Rattle.cr_preproc.specs.Directives.{Opening, all_marks, header_name, includes, defines, undefines, pragma, directive}
+use Rattle.cr_phase4.specs.Tasks.{Ill, Task, Nothing, ◌>>>◌, ready, ends, tell}
+use Rattle.cr_phase4.specs.Definition.{definition, undefined_name}
+use Rattle.cr_phase4.specs.Search.{World}
+use Rattle.cr_phase4.specs.Directives.{Opening, all_marks, header_name, includes, defines, undefines, pragma, directive}
 
 abbrev pub by_order : World → Unit → Opening → Text → Place → List Token → Order → Task Nothing
 by_order w u enter path hash ts order.Define = defines hash (definition ts)

@@ -8,8 +8,8 @@ ghost use Rattle.cr_macros.specs.Substitution.{made};
 ghost use Rattle.cr_macros.specs.Tokens.{Text, token_of, tokens_of};
 ghost use Rattle.cr_macros.specs.MacroTables.{macro_named};
 ghost use Rattle.cr_base.specs.declared.token.PpKind.TheVariants as kind;
-ghost use Rattle.cr_preproc.specs.Conditionals as spec;
-ghost use Rattle.cr_preproc.specs.Traces.{all_events_seen};
+ghost use Rattle.cr_phase4.specs.Conditionals as spec;
+ghost use Rattle.cr_phase4.specs.Traces.{all_events_seen};
 ghost use Rattle.cr_preproc.specs.Seen.{IsNamed, AreNamed, AreMacrosNamed, macros_of, seen_asked, seen_answer, answer_at, answered_list, AreDigits};
 
 use crate::trace::{Renaming, note};

@@ -4,25 +4,25 @@ ghost use Rattle.cr_base.specs.declared.cause.IllCause.TheVariants as cause;
 ghost use Rattle.cr_base.specs.declared.cause.Role.TheVariants as role;
 ghost use Rattle.cr_base.specs.declared.token.Place.{Place as ThePlace};
 ghost use Rattle.cr_macros.specs.Tokens.{Text, Token, token_of, tokens_of};
-ghost use Rattle.cr_preproc.specs.Conditionals as spec;
+ghost use Rattle.cr_phase4.specs.Conditionals as spec;
 ghost use Rattle.cr_preproc.specs.Leading.{IsLed, IsDecided, chosen};
 ghost use Rattle.cr_preproc.specs.Progressing.{IsProgress, Did};
 ghost use Rattle.cr_preproc.specs.Seen.{AreNamed, IsNamed};
-ghost use Rattle.cr_preproc.specs.Tasks.{Done, ◌>>>◌, only, tell, marks};
+ghost use Rattle.cr_phase4.specs.Tasks.{Done, ◌>>>◌, only, tell, marks};
 ghost use Rattle.cr_preproc.specs.declared.conditional.Led.TheVariants as led;
-ghost use Rattle.cr_preproc.specs.declared.line.Word.TheVariants as word;
-ghost use Rattle.cr_preproc.specs.declared.open_ifs.OpenIf.{OpenIf as TheOpenIf};
+ghost use Rattle.cr_phase4.specs.declared.conditionals.Word.TheVariants as word;
+ghost use Rattle.cr_phase4.specs.declared.conditionals.OpenIf.{OpenIf as TheOpenIf};
 
 use crate::condition::{answer_defined, is_macro, note_asked};
 use crate::evaluate::{cause_of, is_true};
 use crate::expansion::Fault;
-use crate::line::Word;
-use crate::open_ifs::{Elif, Group, OpenIfs, group_if};
+use crate::open_ifs::{Elif, OpenIfs, group_if};
 use crate::progress::Progress;
 use cr_base::{IllCause, OutOfMemory, Place, PpTok, Role};
 use cr_cond::CondFault;
 use cr_expand::defined_macros_are_known;
 use cr_macros::is_ident;
+use cr_phase4::{Group, Word};
 use std::alloc::Global;
 
 // What the value of a list decides on: a conditional that begins, or the next group of the innermost one.

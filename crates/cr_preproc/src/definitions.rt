@@ -5,7 +5,7 @@ ghost use Rattle.cr_macros.specs.Definition.{IsFirstPlaced, text_of};
 ghost use Rattle.cr_macros.specs.Definition as number;
 ghost use Rattle.cr_macros.specs.MacroTables.{Defines, Sets};
 ghost use Rattle.cr_macros.specs.Tokens.{token_of, tokens_of};
-ghost use Rattle.cr_preproc.specs.Definition as spec;
+ghost use Rattle.cr_phase4.specs.Definition as spec;
 ghost use Rattle.cr_preproc.specs.Seen.{IsNamed, AreNamed, AreMacrosNamed, SetsText, IsDefined, IsUndefined};
 
 use cr_base::{Name, NameTable, PpTok};

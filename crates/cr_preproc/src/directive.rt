@@ -1,7 +1,7 @@
 //! Directives that aren't conditional, by their words (C11 6.10.2 to 6.10.7).
 ghost use Rattle.std.specs.Prelude.{◌≡◌, ◌&&◌, codes, bytes_eq, false};
 ghost use Rattle.cr_macros.specs.Tokens.{tokens_of};
-ghost use Rattle.cr_preproc.specs.Directives as spec;
+ghost use Rattle.cr_phase4.specs.Directives as spec;
 ghost use Rattle.cr_preproc.specs.Words.{IsWord};
 
 use cr_base::{NameTable, PpTok};

@@ -1,7 +1,7 @@
 //! Whether the list of an `#if` is true (C11 6.10.1p4).
 ghost use Rattle.std.specs.Prelude.{◌≡◌, Ok, Err, IfOk, IfErr, not, map};
 ghost use Rattle.cr_macros.specs.Tokens.{tokens_of};
-ghost use Rattle.cr_preproc.specs.Conditionals as spec;
+ghost use Rattle.cr_phase4.specs.Conditionals as spec;
 ghost use Rattle.cr_preproc.specs.Truths.{IsTruth, truth_of};
 ghost use Rattle.cr_cond.specs.Value.{is_zero_int};
 

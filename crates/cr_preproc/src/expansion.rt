@@ -10,7 +10,7 @@ ghost use Rattle.cr_expand.specs.declared.machine.TheConstants.{LIMIT};
 ghost use Rattle.cr_preproc.specs.Expanding.{IsExpanding, still_in, ahead_in, IsUsed, IsFaultOf, IsKept};
 ghost use Rattle.cr_preproc.specs.Progressing.{IsProgress};
 ghost use Rattle.cr_preproc.specs.Seen.{AreNamed};
-ghost use Rattle.cr_preproc.specs.Traces.{opaque_place};
+ghost use Rattle.cr_phase4.specs.Traces.{opaque_place};
 
 use crate::progress::Progress;
 use crate::trace::Trace;

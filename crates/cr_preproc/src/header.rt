@@ -2,7 +2,7 @@
 ghost use Rattle.std.specs.Prelude.{◌≡◌, ◌++◌, [], codes, IfOk, Some, None, if◌then◌else◌};
 ghost use Rattle.std.specs.Option.{option_map};
 ghost use Rattle.cr_macros.specs.Tokens.{tokens_of, token_of, is_mark};
-ghost use Rattle.cr_preproc.specs.Directives as spec;
+ghost use Rattle.cr_phase4.specs.Directives as spec;
 ghost use Rattle.cr_preproc.specs.Seen.{seen_header};
 
 use cr_base::{NameTable, OutOfMemory, PpKind, PpTok};

@@ -3,7 +3,7 @@ ghost use Rattle.std.specs.Prelude.{◌≡◌, ◌<◌, Some, IfOk, length, slic
 ghost use Rattle.std.specs.Option.{option_map};
 ghost use Rattle.cr_snapshot.specs.Files.{finding};
 ghost use Rattle.cr_snapshot.specs.IncludeSearch.{candidates};
-ghost use Rattle.cr_preproc.specs.Search as spec;
+ghost use Rattle.cr_phase4.specs.Search as spec;
 ghost use Rattle.cr_preproc.specs.Seen.{seen_search};
 
 use crate::header::Header;

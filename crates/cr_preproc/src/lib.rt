@@ -1,8 +1,7 @@
 //! Preprocessing of a translation unit.
 #![tactic(auto)]
 
-ghost use Rattle.cr_preproc.specs.PreprocessingRun.{GoesOn, SnapshotsAgree};
-ghost use Rattle.cr_preproc.specs.Runs.{FollowsTheRules};
+ghost use Rattle.cr_phase4.specs.Runs.{FollowsTheRules};
 ghost use Rattle.cr_preproc.specs.Frames.{OpensInFront};
 ghost use Rattle.cr_preproc.specs.Leading.{GoesByTokens};
 
@@ -29,7 +28,6 @@ mod turning;
 mod words;
 
 pub use cr_macros::Seen;
-use cr_snapshot::known_files_stay_known;
 pub use preproc::{PreTurn, Preproc, steps_preprocess_the_unit};
 pub use trace::Trace;
 
@@ -49,20 +47,3 @@ pub fn a_run_goes_by_its_tokens()
 pub fn a_file_is_opened_in_front()
     ensures { OpensInFront }
 {}
-
-/// Where more files are known, a unit that wanted no file is preprocessed as before, and one that wanted
-/// files does the same first. It does nothing: its contract is the law.
-pub fn preprocessing_goes_on()
-    ensures { GoesOn }
-{}
-
-/// A snapshot of which one more file is known still knows what it knew, with the same numbers. It does
-/// nothing: its contract is the law.
-pub fn larger_snapshots_agree()
-    ensures { SnapshotsAgree }
-{
-    known_files_stay_known();
-}
-
-#[cfg(test)]
-mod tests;

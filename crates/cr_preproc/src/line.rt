@@ -3,22 +3,12 @@ ghost use Rattle.std.specs.Prelude.{◌≡◌, ◌∷◌, [], List as ListOf};
 ghost use Rattle.cr_base.specs.declared.token.PpTok.{PpTok as TheToken};
 ghost use Rattle.cr_macros.specs.Tokens.{tokens_of, token_of};
 ghost use Rattle.cr_preproc.specs.LineParts.{AreParts};
-ghost use Rattle.cr_preproc.specs.Lines as spec;
+ghost use Rattle.cr_phase4.specs.Lines as spec;
 ghost use Rattle.cr_preproc.specs.Seen.{seen_line};
 
 use cr_base::{NameTable, Place, PpTok};
 use cr_macros::{is_hash, is_ident, text};
-
-/// The word of a conditional directive (C11 6.10.1).
-#[derive(Clone, Copy, Debug, PartialEq, Eq)]
-pub enum Word {
-    If,
-    Ifdef,
-    Ifndef,
-    Elif,
-    Else,
-    Endif,
-}
+use cr_phase4::Word;
 
 // A line (C11 6.10p1): text, or a directive with the place of its `#`, its word and the tokens behind
 // that. `Empty` is a `#` alone, and behind a `Wordless` one no word stands.

@@ -1,33 +1,16 @@
 //! The conditionals of a file that are open (C11 6.10.1).
 ghost use Rattle.std.specs.Prelude.{◌≡◌, [], List as ListOf, OnOk, OnErr, false, if◌then◌else◌};
-ghost use Rattle.cr_preproc.specs.Tasks.{State, only, ends, Ill};
-ghost use Rattle.cr_preproc.specs.Conditionals as spec;
+ghost use Rattle.cr_phase4.specs.Tasks.{State, only, ends, Ill};
+ghost use Rattle.cr_phase4.specs.Conditionals as spec;
 ghost use Rattle.cr_preproc.specs.OpenIfs.{with_first, with_group, by_elif, first_of};
 ghost use Rattle.cr_base.specs.declared.cause.IllCause.TheVariants as cause;
 ghost use Rattle.cr_base.specs.declared.token.Place.{Place as ThePlace};
 ghost use Rattle.cr_macros.specs.Tokens.{Text, Token};
 
-use crate::line::Word;
 use cr_base::{OutOfMemory, Place};
+use cr_phase4::{Group, OpenIf, Word};
 use std::alloc::Global;
 use std::marker::Model;
-
-// The group of an open conditional that is read: the one that is taken, one before it, or one behind it.
-#[derive(Clone, Copy, Debug, PartialEq, Eq)]
-pub enum Group {
-    Taken,
-    Before,
-    Past,
-}
-
-// A conditional that isn't closed: the place of the `#` of its `if`, its group, and whether `else` was
-// there.
-#[derive(Clone, Copy, Debug)]
-pub struct OpenIf {
-    pub hash: Place,
-    pub group: Group,
-    pub in_else: bool,
-}
 
 // What an `elif` asks for: nothing, since it stands wrong; that its list is evaluated; or that its group is
 // skipped.
@@ -46,7 +29,7 @@ pub struct OpenIfs {
 
 impl Model for OpenIfs {
     ghost use Rattle.std.specs.Prelude.{List, reverse};
-    ghost use Rattle.cr_preproc.specs.declared.open_ifs.OpenIf.{OpenIf};
+    ghost use Rattle.cr_phase4.specs.declared.conditionals.OpenIf.{OpenIf};
 
     ghost Value = { List OpenIf };
 

@@ -6,13 +6,13 @@ ghost use Rattle.cr_preproc.specs.declared.open_file.OpenFile.{OpenFile as TheOp
 ghost use Rattle.cr_preproc.specs.declared.preproc.Preproc.{Preproc as ThePreproc};
 ghost use Rattle.cr_preproc.specs.declared.preproc.Ending.{Ending as TheEnding};
 ghost use Rattle.cr_preproc.specs.declared.turning.Doing.{Doing as TheDoing};
-ghost use Rattle.cr_preproc.specs.Search.{world_of};
+ghost use Rattle.cr_phase4.specs.Search.{world_of};
 ghost use Rattle.cr_preproc.specs.Turning.{IsTurned, IsOpened};
 ghost use Rattle.cr_preproc.specs.Progressing.{IsProgress};
 ghost use Rattle.cr_preproc.specs.Falling.{Falls, CountsFile, TurnFalls};
-ghost use Rattle.cr_preproc.specs.Preprocessing.{does_first_file};
+ghost use Rattle.cr_phase4.specs.Preprocessing.{does_first_file};
 ghost use Rattle.cr_macros.specs.Tokens.{Text};
-ghost use Rattle.cr_preproc.specs.Preprocs.{IsFresh, IsPreproc, IsPreStep, IsTurn, IsOuter, IsSameUnit, IsSilent, answer_of, path_of, next_of, IsOfSearch, GoesByTheDefinition, EndsByTheDefinition};
+ghost use Rattle.cr_preproc.specs.Preprocs.{IsFresh, IsPreproc, IsSound, HasRoom, IsPreStep, IsTurn, IsOuter, IsSameUnit, IsSilent, answer_of, path_of, next_of, IsOfSearch, GoesByTheDefinition, EndsByTheDefinition};
 
 use crate::expansion::Fault;
 use crate::open_file::OpenFile;
@@ -117,8 +117,7 @@ impl Preproc {
     /// `Ill` and want of memory it answers the same again.
     ///
     /// What was left of the unit's preprocessing is the events that a step kept, and then what is left now,
-    /// also where the unit ends. Of a use of a rule that fails nothing is told. Where a rule gave a token for
-    /// which there is no room, `Ill` answers for that use too.
+    /// also where the unit ends. Of a use of a rule that fails nothing is told.
     pub fn step(&mut self, snapshot: &Snapshot) -> Result<PreTurn, OutOfMemory>
         requires good { IsPreproc snapshot.now self.old }
         ensures step { IfOk result (λ turn. IsPreStep snapshot.now self.old self.new turn) }
@@ -161,8 +160,21 @@ impl Preproc {
         requires going { self.old.ending ≡ None }
         ensures turn { IfOk result (λ turn. IsTurn snapshot.now self.old self.new turn) }
         ensures falls { IfOk result (λ turn. TurnFalls self.old self.new turn) }
+        ensures room { OnOk result (HasRoom self.new.progress.names self.new.ending) }
     {
+        let step = self.turn_in_room(snapshot)?;
         self.progress.check_room()?;
+        Ok(step)
+    }
+
+    // The same, where the table of names may be left with too many texts.
+    fn turn_in_room(&mut self, snapshot: &Snapshot) -> Result<Option<PreTurn>, OutOfMemory>
+        requires good { IsSound snapshot.now self.old }
+        requires going { self.old.ending ≡ None }
+        requires room { length self.old.progress.names < 2 ^ 31 }
+        ensures turn { IfOk result (λ turn. IsTurn snapshot.now self.old self.new turn) }
+        ensures falls { IfOk result (λ turn. TurnFalls self.old self.new turn) }
+    {
         match &mut self.file {
             None => {
                 let step = self.open_first(snapshot)?;
@@ -230,7 +242,7 @@ impl Preproc {
 
     // The next file that no include names is opened.
     fn open_first(&mut self, snapshot: &Snapshot) -> Result<Option<PreTurn>, OutOfMemory>
-        requires good { IsPreproc snapshot.now self.old }
+        requires good { IsSound snapshot.now self.old }
         requires going { self.old.ending ≡ None }
         requires room { length self.old.progress.names < 2 ^ 31 }
         requires file { self.old.file ≡ None }
@@ -276,7 +288,7 @@ impl Preproc {
     // What comes of that.
     fn follow_first(&mut self, turned: Turned) -> Option<PreTurn>
         requires { IsOfSearch turned }
-        ensures turn { (files : ListOf TheFile) (p : ThePreproc) (path : Text) → IsSameUnit p self.old → p.file ≡ None → self.old.file ≡ None → p.doing ≡ self.old.doing → IsPreproc files p → path_of p.unit p.firsts ≡ Some path
+        ensures turn { (files : ListOf TheFile) (p : ThePreproc) (path : Text) → IsSameUnit p self.old → p.file ≡ None → self.old.file ≡ None → p.doing ≡ self.old.doing → IsSound files p → path_of p.unit p.firsts ≡ Some path
             → IsOpened (world_of files) p.unit files p.progress self.old.progress (does_first_file (world_of files) p.unit path) turned → IsTurn files p self.new result }
         ensures falls { (p : ThePreproc) (path : Text) → IsSameUnit p self.old → p.file ≡ None → self.old.file ≡ None → path_of p.unit p.firsts ≡ Some path → CountsFile p.progress self.old.progress turned → TurnFalls p self.new result }
     {
@@ -313,16 +325,18 @@ impl Preproc {
         &self.progress.trace
     }
 
-    /// The table that gave the names of the tokens.
+    /// The table that gave the names of the tokens. It holds fewer than 2^31 texts, but after want of memory.
     pub fn names(&self) -> &NameTable
-        ensures { result.now ≡ self.now.progress.names }
+        ensures names { result.now ≡ self.now.progress.names }
+        ensures room { (files : ListOf TheFile) → IsPreproc files self.now → HasRoom result.now self.now.ending }
     {
         &self.progress.names
     }
 
     /// These three.
     pub fn into_parts(self) -> (NameTable, Vec<PpTok>, Trace)
-        ensures { result ≡ (self.progress.names, self.progress.tokens, self.progress.trace) }
+        ensures parts { result ≡ (self.progress.names, self.progress.tokens, self.progress.trace) }
+        ensures room { (files : ListOf TheFile) → IsPreproc files self → HasRoom result.0 self.ending }
     {
         let Preproc { progress, .. } = self;
         let Progress {
@@ -339,7 +353,7 @@ impl Preproc {
 /// are known at each step: after n steps what has happened is the unit's preprocessing up to its nth step,
 /// and the tokens and the trace are those of what has happened; where it has come to its end, to a fault or
 /// to files that are wanted, so does the definition, after as many steps and with the same tokens and trace.
-/// But where a rule gave a token for which there is no room, its use is one step more. It does no work.
+/// It does no work.
 pub fn steps_preprocess_the_unit()
     ensures goes { GoesByTheDefinition }
     ensures ends { EndsByTheDefinition }

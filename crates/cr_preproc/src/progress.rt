@@ -4,14 +4,14 @@ ghost use Rattle.cr_base.specs.NameTable.{with_text};
 ghost use Rattle.cr_base.specs.declared.token.Place.{Place as ThePlace};
 ghost use Rattle.cr_macros.specs.Definition.{IsFirstPlaced, text_of};
 ghost use Rattle.cr_macros.specs.Tokens.{Text, MacroText, token_of, tokens_of};
-ghost use Rattle.cr_preproc.specs.Tasks.{Done, tell, change, marks, gives};
-ghost use Rattle.cr_preproc.specs.Definition as spec;
-ghost use Rattle.cr_preproc.specs.Definition.{Definition};
-ghost use Rattle.cr_preproc.specs.Directives.{all_marks, defines, undefines};
-ghost use Rattle.cr_preproc.specs.Preprocessing.{at_first};
+ghost use Rattle.cr_phase4.specs.Tasks.{Done, tell, change, marks, gives};
+ghost use Rattle.cr_phase4.specs.Definition as spec;
+ghost use Rattle.cr_phase4.specs.Definition.{Definition};
+ghost use Rattle.cr_phase4.specs.Directives.{all_marks, defines, undefines};
+ghost use Rattle.cr_phase4.specs.Preprocessing.{at_first};
 ghost use Rattle.cr_preproc.specs.Progressing.{state_of, kept, IsProgress, IsSeen, IsTraced, IsNotOpaque, definition_of, definition_events, Did};
 ghost use Rattle.cr_preproc.specs.Seen.{IsNamed, AreNamed, macros_of};
-ghost use Rattle.cr_preproc.specs.Traces.{seen_as, trace_of};
+ghost use Rattle.cr_phase4.specs.Traces.{seen_as, trace_of};
 
 use crate::definitions::{define, undefine, undefined_name};
 use crate::once::Once;
@@ -19,7 +19,7 @@ use crate::roles::{note_captured, note_definition};
 use crate::trace::{Renaming, Trace, note, note_all, note_new_macro, note_seen_places};
 use cr_base::{NameTable, Origin, OutOfMemory, PpTok, Role};
 use cr_expand::defined_macros_are_known;
-use cr_macros::{ExpandFault, MacroTable, Seen};
+use cr_macros::{ExpandFault, MacroTable};
 use std::alloc::Global;
 
 // How many final tokens a unit may have.
@@ -28,7 +28,7 @@ pub const MOST_TOKENS: usize = 1_048_576;
 // How many tokens may be taken from files and files be opened.
 pub const MOST_READ: u32 = 33_554_432;
 
-// How many texts the table of names may hold before a step.
+// How many texts the table of names may hold before a turn.
 const MOST_NAMES: usize = 2_147_483_648;
 
 // The tables of a unit, the macro work that is used, how much may still be read, the final tokens and the
@@ -70,6 +70,7 @@ impl Progress {
         ensures trace { IfOk result (λ p. kept p.trace ≡ trace_of old.now new.now []) }
         ensures old { IfOk result (λ p. text_of p.names p.renaming.old ≡ old.now) }
         ensures new { IfOk result (λ p. text_of p.names p.renaming.new ≡ new.now) }
+        ensures room { IfOk result (λ p. length p.names < 2 ^ 31) }
     {
         let mut names = NameTable::new(alloc);
         let old = names.intern(old)?;
@@ -86,7 +87,7 @@ impl Progress {
         })
     }
 
-    // Fails where the table of names has no room for what a step may put into it.
+    // Fails where the table of names has no room for what a turn may put into it.
     pub fn check_room(&self) -> Result<(), OutOfMemory>
         ensures { OnOk result (length self.now.names < 2 ^ 31) }
     {
@@ -144,15 +145,6 @@ impl Progress {
             tokens,
         )?;
         note_seen_places(&mut self.trace.opaque, &self.trace.seen[before..])?;
-        Ok(())
-    }
-
-    // Notes what an expansion noted.
-    pub fn note_seen(&mut self, seen: &[Seen]) -> Result<(), OutOfMemory>
-        ensures seen { OnOk result (IsSeen self.old self.new seen.now) }
-        ensures names { self.new.names ≡ self.old.names }
-    {
-        self.trace.seen.extend_from_slice(seen)?;
         Ok(())
     }
 

@@ -5,10 +5,10 @@ ghost use Rattle.cr_macros.specs.Definition.{text_of};
 ghost use Rattle.cr_macros.specs.MacroTables.{macro_text};
 ghost use Rattle.cr_macros.specs.Substitution as subst;
 ghost use Rattle.cr_macros.specs.Tokens.{Token, token_of, tokens_of};
-ghost use Rattle.cr_preproc.specs.Definition.{parameters_of};
-ghost use Rattle.cr_preproc.specs.Directives.{definition_marks};
-ghost use Rattle.cr_preproc.specs.Tasks.{Defined};
-ghost use Rattle.cr_preproc.specs.Traces.{params_seen, all_events_seen, all_old_at, body_params_of};
+ghost use Rattle.cr_phase4.specs.Definition.{parameters_of};
+ghost use Rattle.cr_phase4.specs.Directives.{definition_marks};
+ghost use Rattle.cr_phase4.specs.Tasks.{Defined};
+ghost use Rattle.cr_phase4.specs.Traces.{params_seen, all_events_seen, all_old_at, body_params_of};
 
 use crate::definitions::parameters;
 use crate::trace::{Renaming, note, note_all};

@@ -1,7 +1,7 @@
 //! The first of some paths at which a file is there.
 ghost use Rattle.std.specs.Prelude.{◌≡◌, IfOk};
 ghost use Rattle.cr_snapshot.specs.Files.{finding};
-ghost use Rattle.cr_preproc.specs.Search as spec;
+ghost use Rattle.cr_phase4.specs.Search as spec;
 ghost use Rattle.cr_preproc.specs.Seen.{seen_search};
 ghost use Rattle.cr_preproc.specs.Turning.{IsSmall};
 

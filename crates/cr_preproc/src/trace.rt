@@ -2,8 +2,8 @@
 ghost use Rattle.std.specs.Prelude.{◌≡◌, ◌++◌, [], OnOk, map};
 ghost use Rattle.cr_macros.specs.Definition.{text_of};
 ghost use Rattle.cr_macros.specs.Tokens.{MacroText, token_of, tokens_of};
-ghost use Rattle.cr_preproc.specs.Tasks.{Defined};
-ghost use Rattle.cr_preproc.specs.Traces.{is_either, seen_as, all_seen_as, new_macros_of};
+ghost use Rattle.cr_phase4.specs.Tasks.{Defined};
+ghost use Rattle.cr_phase4.specs.Traces.{is_either, seen_as, all_seen_as, new_macros_of};
 
 use cr_base::{Name, NameTable, Origin, OutOfMemory, Place, PpTok, Role};
 use cr_macros::{Seen, is_ident, text};

@@ -12,13 +12,13 @@ ghost use Rattle.cr_preproc.specs.declared.progress.Progress.{Progress as ThePro
 ghost use Rattle.cr_preproc.specs.declared.expansion.Expansion.{Expansion as TheExpansion};
 ghost use Rattle.cr_preproc.specs.declared.open_file.OpenFile.{OpenFile as TheOpenFile};
 ghost use Rattle.cr_preproc.specs.declared.turning.Doing.{Doing as TheDoing};
-ghost use Rattle.cr_preproc.specs.Tasks.{State, Task, Nothing, Done, Reply, Ends, Goes, go_on, ◌>>>◌, in_directive, moved};
-ghost use Rattle.cr_preproc.specs.Lines as lines;
-ghost use Rattle.cr_preproc.specs.Search as searching;
-ghost use Rattle.cr_preproc.specs.Search.{World, world_of};
-ghost use Rattle.cr_preproc.specs.Runs.{runs, after_run as spec_after_run, expands};
-ghost use Rattle.cr_preproc.specs.Directives.{opens, opens_found};
-ghost use Rattle.cr_preproc.specs.Preprocessing.{at_end, does_file};
+ghost use Rattle.cr_phase4.specs.Tasks.{State, Task, Nothing, Done, Reply, Ends, Goes, go_on, ◌>>>◌, in_directive, moved};
+ghost use Rattle.cr_phase4.specs.Lines as lines;
+ghost use Rattle.cr_phase4.specs.Search as searching;
+ghost use Rattle.cr_phase4.specs.Search.{World, world_of};
+ghost use Rattle.cr_phase4.specs.Runs.{runs, after_run as spec_after_run, expands};
+ghost use Rattle.cr_phase4.specs.Directives.{opens, opens_found};
+ghost use Rattle.cr_phase4.specs.Preprocessing.{at_end, does_file};
 ghost use Rattle.cr_preproc.specs.OpenFiles.{Reading, reading_of, IsOpen, reads_file};
 ghost use Rattle.cr_preproc.specs.OpenFileSteps.{HasLine, LacksLine, TellsNext};
 ghost use Rattle.cr_preproc.specs.Progressing.{state_of, IsProgress};
@@ -71,6 +71,8 @@ pub enum Doing {
     Includes(Expansion, Vec<PpTok>, Place),
     // The file of an include at this place is looked for at these paths.
     Looks(Vec<PathText>, Place),
+    // Nothing: the unit ends so.
+    Fails(Fault),
 }
 
 // What a turn came to.
@@ -493,16 +495,21 @@ fn after_run(
     }
 }
 
-// A token of a run is given.
-fn give(progress: &mut Progress, t: PpTok) -> Result<Turned, OutOfMemory>
+// A token of a run is given, and the run goes on; or the unit ends, where there is no room for the token.
+fn give(
+    progress: &mut Progress,
+    t: PpTok,
+    expansion: Expansion,
+    then: Then,
+) -> Result<Doing, OutOfMemory>
     requires good { IsProgress progress.old }
     requires name { IsNamed progress.old.names t }
-    ensures given { IfOk result (λ r. IsGiving progress.old progress.new t r) }
+    ensures given { IfOk result (λ next. IsGiving progress.old progress.new t (Doing.Expands expansion then) next) }
 {
     if progress.give(t)? {
-        Ok(Turned::Steps)
+        Ok(Doing::Expands(expansion, then))
     } else {
-        Ok(Turned::Ends(Fault {
+        Ok(Doing::Fails(Fault {
             cause: IllCause::LimitTokens,
             place: t.site,
         }))
@@ -623,6 +630,7 @@ pub fn turn(
             )?;
             Ok(turned)
         }
+        Doing::Fails(fault) => Ok(Turned::Ends(fault)),
     }
 }
 
@@ -679,9 +687,8 @@ fn run_turn(
         }
         Use::Gives(t) => {
             progress.used = expansion.used();
-            *doing = Doing::Expands(expansion, then);
-            let turned = give(progress, t)?;
-            Ok(turned)
+            *doing = give(progress, t, expansion, then)?;
+            Ok(Turned::Steps)
         }
         Use::Ends => {
             progress.used = expansion.used();

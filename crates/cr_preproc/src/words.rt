@@ -1,6 +1,6 @@
 //! The text that is made from a unit's command words.
 ghost use Rattle.std.specs.Prelude.{◌≡◌, IfOk};
-ghost use Rattle.cr_preproc.specs.Search as spec;
+ghost use Rattle.cr_phase4.specs.Search as spec;
 
 use cr_base::{OutOfMemory, PathText, Unit};
 use std::alloc::Global;

@@ -16,9 +16,9 @@ use Rattle.cr_macros.specs.Tokens.{Text, Token, is_ident}
 use Rattle.cr_macros.specs.Substitution.{is_hash}
 use Rattle.cr_expand_law.specs.Renaming.{Renaming, is_at, is_old, is_renamed}
 use Rattle.cr_expand_law.specs.Origins.{Passes, AllPass}
-use Rattle.cr_preproc.specs.declared.line.Word.{Word}
-use Rattle.cr_preproc.specs.Lines.{file_of, token_in, place_in, begins_line, into_line, lines_of, Line, Plain, Conditional, Directive, Empty, Wordless, word_of, by_word, line_of}
-use Rattle.cr_preproc.specs.Search.{World}
+use Rattle.cr_phase4.specs.declared.conditionals.Word.{Word}
+use Rattle.cr_phase4.specs.Lines.{file_of, token_in, place_in, begins_line, into_line, lines_of, Line, Plain, Conditional, Directive, Empty, Wordless, word_of, by_word, line_of}
+use Rattle.cr_phase4.specs.Search.{World}
 use Rattle.cr_preproc_law.specs.Renaming.{Places, renaming_at, IsSame, AreSame, IsApartIn, IsApart, AreApart}
 use Rattle.cr_preproc_law.specs.Finals.{LinePasses, FilePasses, FoundPasses, FinalsPass, IsFinalPlace, IsNumbered}
 use Rattle.cr_preproc_law.proofs.Texts.{HasText, tokens_have_text}

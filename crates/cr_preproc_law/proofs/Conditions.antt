@@ -13,14 +13,14 @@ use Rattle.cr_macros.specs.Substitution.{made, only_if}
 use Rattle.cr_macros.specs.Expansion.{predefined_named}
 use Rattle.cr_expand_law.specs.Renaming.{Renaming, shifted, renamed, all_renamed, renamed_macro, KeepsExpansion}
 use Rattle.cr_expand_law.specs.Uses.{KeepsUses}
-use Rattle.cr_preproc.specs.Tasks.{Ill, State, Task, ◌>>>◌, look, tell, only, ends, marks, in_directive}
-use Rattle.cr_preproc.specs.declared.line.Word.{Word}
-use Rattle.cr_preproc.specs.declared.line.Word.TheVariants.{If, Ifdef, Ifndef, Elif, Else, Endif}
-use Rattle.cr_preproc.specs.Runs.{expands}
-use Rattle.cr_preproc.specs.declared.open_ifs.OpenIf.{OpenIf}
-use Rattle.cr_preproc.specs.declared.open_ifs.Group.{Group}
-use Rattle.cr_preproc.specs.declared.open_ifs.Group.TheVariants.{Taken, Before, Past}
-use Rattle.cr_preproc.specs.Conditionals.{is_live, group_if, opened, is_macro, lexeme_of, Piece, Other, Asks, in_parentheses, asked, piece_by, piece_at, pieces, answered, asking, cause_of, is_true, condition, is_named, elif_in, group_of_else, begun, conditional, is_live_around, is_word_live}
+use Rattle.cr_phase4.specs.Tasks.{Ill, State, Task, ◌>>>◌, look, tell, only, ends, marks, in_directive}
+use Rattle.cr_phase4.specs.declared.conditionals.Word.{Word}
+use Rattle.cr_phase4.specs.declared.conditionals.Word.TheVariants.{If, Ifdef, Ifndef, Elif, Else, Endif}
+use Rattle.cr_phase4.specs.Runs.{expands}
+use Rattle.cr_phase4.specs.declared.conditionals.OpenIf.{OpenIf}
+use Rattle.cr_phase4.specs.declared.conditionals.Group.{Group}
+use Rattle.cr_phase4.specs.declared.conditionals.Group.TheVariants.{Taken, Before, Past}
+use Rattle.cr_phase4.specs.Conditionals.{is_live, group_if, opened, is_macro, lexeme_of, Piece, Other, Asks, in_parentheses, asked, piece_by, piece_at, pieces, answered, asking, cause_of, is_true, condition, is_named, elif_in, group_of_else, begun, conditional, is_live_around, is_word_live}
 use Rattle.cr_preproc_law.specs.Renaming.{renamed_state, IsSame, AreSame}
 use Rattle.cr_preproc_law.proofs.Tokens.{renamed_events, all_shifted, same_token, all_same, of_controlling, all_marked_same, marks_renamed, both_renamed, all_marks_renamed}
 use Rattle.cr_preproc_law.proofs.Following.{Sim, sim_then, sim_only, sim_ends, sim_look, sim_told, sim_tell, sim_to, sim_if, sim_in_directive, same, sim_expands}

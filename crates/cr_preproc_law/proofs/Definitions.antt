@@ -10,9 +10,9 @@ use Rattle.cr_base.specs.declared.cause.Role.TheVariants.{Param, Directive}
 use Rattle.cr_macros.specs.Tokens.{Text, Token, MacroText, is_ident, is_mark}
 use Rattle.cr_macros.specs.Substitution.{is_hash, param, next_param}
 use Rattle.cr_expand_law.specs.Renaming.{Renaming, is_renamed, shifted, renamed, all_renamed, renamed_macro, IsNoParameter}
-use Rattle.cr_preproc.specs.Tasks.{marks}
-use Rattle.cr_preproc.specs.Definition.{is_rest, is_free_name, Params, pieces, after_piece, params_of, object_like, function_like, begins_params, close_of, with_params, macro_of, inside_of, parameters_of, is_paste_at, has_pastes_inside, has_params_behind_hashes, has_good_hashes, is_good, Definition, if_good, definition}
-use Rattle.cr_preproc.specs.Directives.{all_marks, parameter_marks, definition_marks}
+use Rattle.cr_phase4.specs.Tasks.{marks}
+use Rattle.cr_phase4.specs.Definition.{is_rest, is_free_name, Params, pieces, after_piece, params_of, object_like, function_like, begins_params, close_of, with_params, macro_of, inside_of, parameters_of, is_paste_at, has_pastes_inside, has_params_behind_hashes, has_good_hashes, is_good, Definition, if_good, definition}
+use Rattle.cr_phase4.specs.Directives.{all_marks, parameter_marks, definition_marks}
 use Rattle.cr_preproc_law.specs.Renaming.{IsUncaptured, IsSame, AreSame}
 use Rattle.cr_preproc_law.proofs.Tokens.{AreFine, renamed_events, all_shifted, fine_left, fine_right, by_renamed, same_token, all_same, mark_same, paste_same, hash_same, of_param, marked_same, marks_renamed, both_renamed, all_marks_renamed}
 

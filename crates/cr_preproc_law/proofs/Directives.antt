@@ -13,11 +13,11 @@ use Rattle.cr_snapshot.specs.IncludeSearch.{candidates}
 use Rattle.cr_macros.specs.Tokens.{Text, Token, MacroText, is_ident, is_mark}
 use Rattle.cr_expand_law.specs.Renaming.{Renaming, renamed, all_renamed, renamed_macro, IsNoParameter, KeepsExpansion}
 use Rattle.cr_expand_law.specs.Uses.{KeepsUses}
-use Rattle.cr_preproc.specs.Tasks.{Ill, Event, Defined, State, Goes, Task, Nothing, Done, ◌>>>◌, ready, ends, tell, change, marks, in_directive}
-use Rattle.cr_preproc.specs.Definition.{is_free_name, Definition, definition, undefined_name}
-use Rattle.cr_preproc.specs.Search.{World}
-use Rattle.cr_preproc.specs.Runs.{expands}
-use Rattle.cr_preproc.specs.Directives.{Opening, Header, all_marks, blank_of, if_last, to_greater, angled, header_name, site_of, includes_header, includes_expanded, includes, with_macro, parameter_marks, definition_marks, defines, undefines, begins_with_once, pragma, plain_directive, directive}
+use Rattle.cr_phase4.specs.Tasks.{Ill, Event, Defined, State, Goes, Task, Nothing, Done, ◌>>>◌, ready, ends, tell, change, marks, in_directive}
+use Rattle.cr_phase4.specs.Definition.{is_free_name, Definition, definition, undefined_name}
+use Rattle.cr_phase4.specs.Search.{World}
+use Rattle.cr_phase4.specs.Runs.{expands}
+use Rattle.cr_phase4.specs.Directives.{Opening, Header, all_marks, blank_of, if_last, to_greater, angled, header_name, site_of, includes_header, includes_expanded, includes, with_macro, parameter_marks, definition_marks, defines, undefines, begins_with_once, pragma, plain_directive, directive}
 use Rattle.cr_preproc_law.specs.Renaming.{renamed_state, IsSame, AreSame}
 use Rattle.cr_preproc_law.proofs.Tokens.{renamed_events, all_shifted, fine_left, fine_right, same_token, all_same, of_directive, of_param, marked_same, all_marked_same, marks_renamed, both_renamed, all_marks_renamed}
 use Rattle.cr_preproc_law.proofs.Following.{Good, Sim, sim_then, sim_only, sim_ends, sim_told, sim_tell, sim_to, sim_if, sim_in_directive, same, sim_expands}

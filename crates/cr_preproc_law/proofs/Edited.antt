@@ -16,10 +16,10 @@ use Rattle.cr_snapshot.specs.Files.{Finding, Present, Absent, Unknown}
 use Rattle.cr_macros.specs.Tokens.{Text, Token, is_ident}
 use Rattle.cr_expand_law.specs.Renaming.{Renaming, renamed, all_renamed, KeepsExpansion}
 use Rattle.cr_expand_law.specs.Uses.{KeepsUses}
-use Rattle.cr_preproc.specs.Lines.{file_of, place_in, token_in, begins_line, into_line, lines_of, fault_of}
+use Rattle.cr_phase4.specs.Lines.{file_of, place_in, token_in, begins_line, into_line, lines_of, fault_of}
 use Rattle.cr_preproc_law.specs.Renaming.{Places, renaming_at, edited, edited_world, renamed_end, renamed_file, MayBeEdited, MayEdit, KeepsPreprocessing}
 use Rattle.cr_preproc_law.proofs.Searched.{IsRenamedFinding}
-use Rattle.cr_preproc.specs.Search.{World}
+use Rattle.cr_phase4.specs.Search.{World}
 use Rattle.cr_preproc_law.specs.Finals.{FinalsPass, IsFinalPlace, IsNumbered}
 use Rattle.cr_preproc_law.proofs.Apart.{finals_are_apart}
 use Rattle.cr_preproc_law.proofs.Law.{keeps}

@@ -19,20 +19,20 @@ use Rattle.cr_macros.specs.Expansion.{Table, use_of, expand}
 use Rattle.cr_macros.specs.Uses.{put_for, is_given, left_behind}
 use Rattle.cr_macros.specs.Substitution.{param}
 use Rattle.cr_expand_law.specs.Origins.{Passes, AllPass, UsesKeepOrigins}
-use Rattle.cr_preproc.specs.declared.line.Word.{Word}
-use Rattle.cr_preproc.specs.declared.line.Word.TheVariants.{If, Ifdef, Ifndef, Elif, Else, Endif}
-use Rattle.cr_preproc.specs.declared.open_ifs.OpenIf.{OpenIf}
-use Rattle.cr_preproc.specs.declared.open_ifs.Group.{Group}
-use Rattle.cr_preproc.specs.declared.open_ifs.Group.TheVariants.{Taken, Before, Past}
-use Rattle.cr_preproc.specs.Tasks.{Tokens, Macros, Reading, Includes, End, Ill, Over, Needs, Event, Took, Opened, Looked, Defined, Told, Final, State, Reply, Goes, Ends, Task, Nothing, Done, behind, go_on, ◌>>>◌, only, ready, ends, tell, look, change, marks, reads, gives, from_answer, at_place, in_directive}
-use Rattle.cr_preproc.specs.Lines.{File, file_of, place_in, Line, Plain, Conditional, Directive, Empty, Wordless, line_of}
-use Rattle.cr_preproc.specs.Definition.{Params, is_free_name, is_rest, object_like, function_like, begins_params, close_of, with_params, params_of, macro_of, parameters_of, is_good, Definition, if_good, definition, undefined_name}
-use Rattle.cr_preproc.specs.Search.{World, Search, Finds, Misses, Lacks, search, unknown, looked_for, words_path}
-use Rattle.cr_preproc.specs.Runs.{table_in, expands, run_on, run_rules, runs_within, runs, after_run, inside}
-use Rattle.cr_preproc.specs.Conditionals.{is_live, group_if, opened, is_macro, lexeme_of, Piece, Other, Asks, answered, pieces, asking, cause_of, is_true, condition, is_named, elif_in, group_of_else, begun, conditional, is_word_live}
-use Rattle.cr_preproc.specs.Directives.{Opening, Header, all_marks, header_name, site_of, opens_found, looks, opens, includes_expanded, includes, with_macro, parameter_marks, definition_marks, defines, undefines, begins_with_once, pragma, plain_directive, directive}
-use Rattle.cr_preproc.specs.Preprocessing.{Ahead, ahead, where_live, by_line, at_end, run_with, takes_rest, takes_line, does_lines, does_file, levels, does_first_file, does_unit, at_first, preprocessed}
-use Rattle.cr_preproc.specs.PreprocessingRun.{final_tokens}
+use Rattle.cr_phase4.specs.declared.conditionals.Word.{Word}
+use Rattle.cr_phase4.specs.declared.conditionals.Word.TheVariants.{If, Ifdef, Ifndef, Elif, Else, Endif}
+use Rattle.cr_phase4.specs.declared.conditionals.OpenIf.{OpenIf}
+use Rattle.cr_phase4.specs.declared.conditionals.Group.{Group}
+use Rattle.cr_phase4.specs.declared.conditionals.Group.TheVariants.{Taken, Before, Past}
+use Rattle.cr_phase4.specs.Tasks.{Tokens, Macros, Reading, Includes, End, Ill, Over, Needs, Event, Took, Opened, Looked, Defined, Told, Final, State, Reply, Goes, Ends, Task, Nothing, Done, behind, go_on, ◌>>>◌, only, ready, ends, tell, look, change, marks, reads, gives, from_answer, at_place, in_directive}
+use Rattle.cr_phase4.specs.Lines.{File, file_of, place_in, Line, Plain, Conditional, Directive, Empty, Wordless, line_of}
+use Rattle.cr_phase4.specs.Definition.{Params, is_free_name, is_rest, object_like, function_like, begins_params, close_of, with_params, params_of, macro_of, parameters_of, is_good, Definition, if_good, definition, undefined_name}
+use Rattle.cr_phase4.specs.Search.{World, Search, Finds, Misses, Lacks, search, unknown, looked_for, words_path}
+use Rattle.cr_phase4.specs.Runs.{table_in, expands, run_on, run_rules, runs_within, runs, after_run, inside}
+use Rattle.cr_phase4.specs.Conditionals.{is_live, group_if, opened, is_macro, lexeme_of, Piece, Other, Asks, answered, pieces, asking, cause_of, is_true, condition, is_named, elif_in, group_of_else, begun, conditional, is_word_live}
+use Rattle.cr_phase4.specs.Directives.{Opening, Header, all_marks, header_name, site_of, opens_found, looks, opens, includes_expanded, includes, with_macro, parameter_marks, definition_marks, defines, undefines, begins_with_once, pragma, plain_directive, directive}
+use Rattle.cr_phase4.specs.Preprocessing.{Ahead, ahead, where_live, by_line, at_end, run_with, takes_rest, takes_line, does_lines, does_file, levels, does_first_file, does_unit, at_first, preprocessed}
+use Rattle.cr_phase4.specs.PreprocessingRun.{final_tokens}
 use Rattle.cr_preproc_law.specs.Finals.{LinePasses, FilePasses, FoundPasses, FinalsPass}
 
 abbrev Any : {A : Type 0} → A → Type 0

@@ -10,8 +10,8 @@ use Rattle.cr_macros.specs.Expansion.{Table, Use, use_of, expand}
 use Rattle.cr_macros.specs.Uses.{put_for, is_given, left_behind}
 use Rattle.cr_expand_law.specs.Renaming.{Renaming, renamed, all_renamed, renamed_table, renamed_event as renamed_telling, IsNoParameter, IsFree, IsHarmless, KeepsExpansion}
 use Rattle.cr_expand_law.specs.Uses.{KeepsUses}
-use Rattle.cr_preproc.specs.Tasks.{Tokens, Macros, Reading, End, Over, Event, Told, Final, State, Reply, Goes, Ends, Task, Nothing, Done, behind, go_on, ◌>>>◌, only, ends, tell, look, reads, gives, from_answer, at_place, in_directive}
-use Rattle.cr_preproc.specs.Runs.{table_in, expands, run_on, run_rules, runs_within, runs, after_run, inside}
+use Rattle.cr_phase4.specs.Tasks.{Tokens, Macros, Reading, End, Over, Event, Told, Final, State, Reply, Goes, Ends, Task, Nothing, Done, behind, go_on, ◌>>>◌, only, ends, tell, look, reads, gives, from_answer, at_place, in_directive}
+use Rattle.cr_phase4.specs.Runs.{table_in, expands, run_on, run_rules, runs_within, runs, after_run, inside}
 use Rattle.cr_preproc_law.specs.Renaming.{renamed_state, renamed_event}
 use Rattle.cr_preproc_law.proofs.Tokens.{AreFine, renamed_events, fine_left, fine_right}
 

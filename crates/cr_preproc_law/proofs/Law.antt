@@ -12,15 +12,15 @@ use Rattle.cr_macros.specs.Tokens.{Text, Token, is_ident}
 use Rattle.cr_macros.specs.Substitution.{is_hash}
 use Rattle.cr_expand_law.specs.Renaming.{Renaming, renamed, all_renamed, KeepsExpansion}
 use Rattle.cr_expand_law.specs.Uses.{KeepsUses}
-use Rattle.cr_preproc.specs.Tasks.{Includes, End, Ill, Over, Event, Took, Opened, State, Goes, Task, Nothing, Done, ◌>>>◌, only, ends, tell, marks, reads}
-use Rattle.cr_preproc.specs.declared.line.Word.{Word}
-use Rattle.cr_preproc.specs.Lines.{Line, Plain, Conditional, Directive, Empty, Wordless, place_in, by_word, behind_hash, word_of, line_of}
-use Rattle.cr_preproc.specs.Search.{World, words_path}
-use Rattle.cr_preproc.specs.Runs.{runs, inside}
-use Rattle.cr_preproc.specs.declared.open_ifs.OpenIf.{OpenIf}
-use Rattle.cr_preproc.specs.Conditionals.{is_live, conditional, is_word_live}
-use Rattle.cr_preproc.specs.Directives.{Opening, directive}
-use Rattle.cr_preproc.specs.Preprocessing.{Ahead, ahead, where_live, by_line, at_end, run_with, takes_rest, takes_line, does_lines, does_file, levels, does_first_file, does_unit, at_first, preprocessed}
+use Rattle.cr_phase4.specs.Tasks.{Includes, End, Ill, Over, Event, Took, Opened, State, Goes, Task, Nothing, Done, ◌>>>◌, only, ends, tell, marks, reads}
+use Rattle.cr_phase4.specs.declared.conditionals.Word.{Word}
+use Rattle.cr_phase4.specs.Lines.{Line, Plain, Conditional, Directive, Empty, Wordless, place_in, by_word, behind_hash, word_of, line_of}
+use Rattle.cr_phase4.specs.Search.{World, words_path}
+use Rattle.cr_phase4.specs.Runs.{runs, inside}
+use Rattle.cr_phase4.specs.declared.conditionals.OpenIf.{OpenIf}
+use Rattle.cr_phase4.specs.Conditionals.{is_live, conditional, is_word_live}
+use Rattle.cr_phase4.specs.Directives.{Opening, directive}
+use Rattle.cr_phase4.specs.Preprocessing.{Ahead, ahead, where_live, by_line, at_end, run_with, takes_rest, takes_line, does_lines, does_file, levels, does_first_file, does_unit, at_first, preprocessed}
 use Rattle.cr_preproc_law.specs.Renaming.{renamed_end, renamed_state, renamed_event, IsSame, IsApartIn, IsApart, IsFine}
 use Rattle.cr_preproc_law.proofs.Tokens.{renamed_events, same_token, hash_same, marks_renamed}
 use Rattle.cr_preproc_law.proofs.Following.{Follows, Sim, sim_then, sim_only, sim_ends, sim_tell, sim_to, sim_inside, same, sim_reads, sim_runs}

@@ -12,11 +12,11 @@ use Rattle.cr_lex.specs.Spellings.{token_kind, part_of}
 use Rattle.cr_macros.specs.OneToken as one
 use Rattle.cr_macros.specs.Tokens.{Token}
 use Rattle.cr_macros.specs.Expansion.{expand}
-use Rattle.cr_preproc.specs.Tasks.{events_of}
-use Rattle.cr_preproc.specs.Search.{World}
-use Rattle.cr_preproc.specs.Preprocessing.{preprocessed}
-use Rattle.cr_preproc.specs.PreprocessingRun.{final_tokens}
-use Rattle.cr_preproc.specs.Traces.{trace_of}
+use Rattle.cr_phase4.specs.Tasks.{events_of}
+use Rattle.cr_phase4.specs.Search.{World}
+use Rattle.cr_phase4.specs.Preprocessing.{preprocessed}
+use Rattle.cr_phase4.specs.PreprocessingRun.{final_tokens}
+use Rattle.cr_phase4.specs.Traces.{trace_of}
 use Rattle.cr_preproc_law.specs.Renaming.{Places, edited_world}
 
 abbrev the_unit : Unit

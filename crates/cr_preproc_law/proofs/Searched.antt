@@ -6,10 +6,10 @@ use Rattle.cr_snapshot.specs.Files.{Finding, Present, Absent, Unknown}
 use Rattle.cr_snapshot.specs.IncludeSearch.{is_apart}
 use Rattle.cr_macros.specs.Tokens.{Text, has}
 use Rattle.cr_expand_law.specs.Renaming.{Renaming}
-use Rattle.cr_preproc.specs.Tasks.{Looked, Needs, Ill, Done, look, tell, ends, ready}
-use Rattle.cr_preproc.specs.Lines.{File, file_of}
-use Rattle.cr_preproc.specs.Search.{World, Search, Finds, Misses, Lacks, search, unknown, looked_for}
-use Rattle.cr_preproc.specs.Directives.{Opening, opens_found, looks, opens}
+use Rattle.cr_phase4.specs.Tasks.{Looked, Needs, Ill, Done, look, tell, ends, ready}
+use Rattle.cr_phase4.specs.Lines.{File, file_of}
+use Rattle.cr_phase4.specs.Search.{World, Search, Finds, Misses, Lacks, search, unknown, looked_for}
+use Rattle.cr_phase4.specs.Directives.{Opening, opens_found, looks, opens}
 use Rattle.cr_preproc_law.specs.Renaming.{renamed_file, renamed_state, AreApart}
 use Rattle.cr_preproc_law.proofs.Following.{Sim, sim_then, sim_ends, sim_only, sim_look, sim_tell, sim_to, sim_if, same}
 

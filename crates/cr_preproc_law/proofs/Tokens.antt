@@ -13,7 +13,7 @@ use Rattle.cr_base.specs.declared.cause.Role.TheVariants.{Param, Controlling, Di
 use Rattle.cr_macros.specs.Tokens.{Text, Token, Taken, taken_at, is_mark, is_ident, is_punct}
 use Rattle.cr_macros.specs.Substitution.{is_hash, is_paste}
 use Rattle.cr_expand_law.specs.Renaming.{Renaming, is_at, is_old, is_renamed, shifted_origin, shifted, renamed, all_renamed, IsHarmless}
-use Rattle.cr_preproc.specs.Tasks.{Event, Told, marks}
+use Rattle.cr_phase4.specs.Tasks.{Event, Told, marks}
 use Rattle.cr_preproc_law.specs.Renaming.{renamed_event, IsFine, IsSame, AreSame}
 
 abbrev pub AreFine : Renaming → List Event → Type 0

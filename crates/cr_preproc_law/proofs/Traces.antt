@@ -12,8 +12,8 @@ use Rattle.cr_macros.specs.declared.macros.Seen.{Seen}
 use Rattle.cr_macros.specs.Tokens.{Text, Token, MacroText, Event as Telling, Rule, Taken, is_ident}
 use Rattle.cr_macros.specs.Substitution.{param, params_of, index_of}
 use Rattle.cr_expand_law.specs.Renaming.{Renaming, is_at, is_old, is_renamed, renamed, IsHarmless}
-use Rattle.cr_preproc.specs.Tasks.{Event, Took, Opened, Looked, Defined, Told, Final}
-use Rattle.cr_preproc.specs.Traces.{seen_telling, seen_of, new_macros_of, old_at, captures, body_params_of}
+use Rattle.cr_phase4.specs.Tasks.{Event, Took, Opened, Looked, Defined, Told, Final}
+use Rattle.cr_phase4.specs.Traces.{seen_telling, seen_of, new_macros_of, old_at, captures, body_params_of}
 use Rattle.cr_preproc_law.specs.Renaming.{IsUncaptured, IsFine}
 use Rattle.cr_preproc_law.specs.Traces.{IsFree, TracesAreFine}
 use Rattle.cr_preproc_law.proofs.Tokens.{by_renamed}

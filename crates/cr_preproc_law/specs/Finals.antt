@@ -8,12 +8,12 @@ use Rattle.cr_base.specs.declared.unit.Unit.{Unit}
 use Rattle.cr_snapshot.specs.Files.{Finding, Present, Absent, Unknown}
 use Rattle.cr_macros.specs.Tokens.{Text, Token}
 use Rattle.cr_expand_law.specs.Origins.{AllPass}
-use Rattle.cr_preproc.specs.Tasks.{Event, State, Goes, Done}
-use Rattle.cr_preproc.specs.Lines.{File, file_of, Line, Plain, Conditional, Directive, Empty, Wordless, line_of}
+use Rattle.cr_phase4.specs.Tasks.{Event, State, Goes, Done}
+use Rattle.cr_phase4.specs.Lines.{File, file_of, Line, Plain, Conditional, Directive, Empty, Wordless, line_of}
 use Rattle.cr_snapshot.specs.declared.known.KnownFile.{KnownFile}
-use Rattle.cr_preproc.specs.Search.{World, world_of}
-use Rattle.cr_preproc.specs.Preprocessing.{preprocessed}
-use Rattle.cr_preproc.specs.PreprocessingRun.{final_tokens}
+use Rattle.cr_phase4.specs.Search.{World, world_of}
+use Rattle.cr_phase4.specs.Preprocessing.{preprocessed}
+use Rattle.cr_phase4.specs.PreprocessingRun.{final_tokens}
 
 -- the origins of a text line, and of what is behind the word of a `define`, pass
 abbrev pub LinePasses : (Origin → Bool) → List Token → Line → Type 0

@@ -9,10 +9,10 @@ use Rattle.cr_snapshot.specs.Files.{Finding, Present, Absent, Unknown}
 use Rattle.cr_macros.specs.Tokens.{Text, Token, MacroText}
 use Rattle.cr_macros.specs.Substitution.{param}
 use Rattle.cr_expand_law.specs.Renaming.{Renaming, is_renamed, renamed, all_renamed, renamed_macro, renamed_event as renamed_telling, IsHarmless}
-use Rattle.cr_preproc.specs.Tasks.{End, Ill, Over, Needs, Event, Took, Opened, Looked, Defined, Told, Final, State, Goes, Done}
-use Rattle.cr_preproc.specs.Lines.{File, place_in, Line, Plain, Conditional, Directive, Empty, Wordless, line_of}
-use Rattle.cr_preproc.specs.Search.{World}
-use Rattle.cr_preproc.specs.Preprocessing.{preprocessed}
+use Rattle.cr_phase4.specs.Tasks.{End, Ill, Over, Needs, Event, Took, Opened, Looked, Defined, Told, Final, State, Goes, Done}
+use Rattle.cr_phase4.specs.Lines.{File, place_in, Line, Plain, Conditional, Directive, Empty, Wordless, line_of}
+use Rattle.cr_phase4.specs.Search.{World}
+use Rattle.cr_phase4.specs.Preprocessing.{preprocessed}
 use Rattle.cr_preproc_law.specs.Finals.{IsFinalPlace, IsNumbered}
 
 -- offsets of places, by the number of the file

@@ -5,8 +5,8 @@ use Rattle.cr_base.specs.declared.cause.Role.{Role}
 use Rattle.cr_base.specs.declared.cause.Role.TheVariants.{Final, Dropped}
 use Rattle.cr_macros.specs.declared.macros.Seen.{Seen}
 use Rattle.cr_expand_law.specs.Renaming.{Renaming}
-use Rattle.cr_preproc.specs.Tasks.{Event}
-use Rattle.cr_preproc.specs.Traces.{Trace, trace_of}
+use Rattle.cr_phase4.specs.Tasks.{Event}
+use Rattle.cr_phase4.specs.Traces.{Trace, trace_of}
 use Rattle.cr_preproc_law.specs.Renaming.{IsFine}
 
 -- the role of an identifier that may be renamed

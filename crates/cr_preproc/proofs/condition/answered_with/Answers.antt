@@ -1,6 +1,6 @@
 use Rattle.std.proofs.Common.{◌++◌, map, ap, ◌∙◌}
 use Rattle.cr_macros.specs.Tokens.{tokens_of}
-use Rattle.cr_preproc.specs.Conditionals.{is_macro_of, answered}
+use Rattle.cr_phase4.specs.Conditionals.{is_macro_of, answered}
 use Rattle.cr_preproc.specs.Seen.{macros_of}
 use Rattle.cr_preproc.proofs.Answered.{skips}
 use Rattle.cr_preproc.proofs.condition.answered_with.Goals as goal

@@ -1,6 +1,6 @@
 use Rattle.std.proofs.Common.{◌≡◌, ◌++◌, drop, map}
 use Rattle.cr_macros.specs.Tokens.{tokens_of}
-use Rattle.cr_preproc.specs.Conditionals.{is_macro_of, answered, pieces}
+use Rattle.cr_phase4.specs.Conditionals.{is_macro_of, answered, pieces}
 use Rattle.cr_preproc.specs.Seen.{AreNamed, macros_of, answered_list}
 use Rattle.cr_preproc.proofs.condition.answered_with.Given as goal
 

@@ -1,8 +1,8 @@
 use Rattle.std.proofs.Common.{◌++◌, ap, ◌∙◌}
 use Rattle.std.specs.Prelude.{flat_map}
 use Rattle.cr_macros.specs.Definition.{text_of}
-use Rattle.cr_preproc.specs.Conditionals.{asking}
-use Rattle.cr_preproc.specs.Traces.{all_events_seen}
+use Rattle.cr_phase4.specs.Conditionals.{asking}
+use Rattle.cr_phase4.specs.Traces.{all_events_seen}
 use Rattle.cr_preproc.proofs.Answered.{skips}
 use Rattle.cr_preproc.proofs.condition.note_asked.Goals as goal
 

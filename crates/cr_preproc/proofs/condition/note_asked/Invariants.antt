@@ -2,8 +2,8 @@ use Rattle.std.proofs.Common.{◌≡◌, ◌++◌, drop}
 use Rattle.std.specs.Prelude.{flat_map}
 use Rattle.cr_macros.specs.Definition.{text_of}
 use Rattle.cr_macros.specs.Tokens.{tokens_of}
-use Rattle.cr_preproc.specs.Conditionals.{asking, pieces}
-use Rattle.cr_preproc.specs.Traces.{all_events_seen}
+use Rattle.cr_phase4.specs.Conditionals.{asking, pieces}
+use Rattle.cr_phase4.specs.Traces.{all_events_seen}
 use Rattle.cr_preproc.proofs.condition.note_asked.Given as goal
 
 abbrev pub invariant-loop-i : goal.invariant-loop-i

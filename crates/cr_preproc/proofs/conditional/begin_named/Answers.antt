@@ -1,8 +1,8 @@
 use Rattle.std.proofs.Common.{cond, drop, subst}
 use Rattle.cr_macros.specs.Tokens.{tokens_of}
-use Rattle.cr_preproc.specs.Conditionals.{conditional}
+use Rattle.cr_phase4.specs.Conditionals.{conditional}
 use Rattle.cr_preproc.specs.Leading.{IsLed}
-use Rattle.cr_preproc.specs.declared.line.Word.TheVariants.{Ifdef, Ifndef}
+use Rattle.cr_phase4.specs.declared.conditionals.Word.TheVariants.{Ifdef, Ifndef}
 use Rattle.cr_preproc.proofs.ConditionalSteps.{head_named}
 use Rattle.cr_preproc.proofs.conditional.begin_named.Goals as goal
 

@@ -1,7 +1,7 @@
 use Rattle.cr_macros.specs.Tokens.{tokens_of}
-use Rattle.cr_preproc.specs.Conditionals.{else_in, endif}
+use Rattle.cr_phase4.specs.Conditionals.{else_in, endif}
 use Rattle.cr_preproc.specs.Progressing.{state_of}
-use Rattle.cr_preproc.specs.declared.line.Word.TheVariants.{If, Ifdef, Ifndef, Elif, Else, Endif}
+use Rattle.cr_phase4.specs.declared.conditionals.Word.TheVariants.{If, Ifdef, Ifndef, Elif, Else, Endif}
 use Rattle.cr_preproc.proofs.ConditionalSteps.{at_word, ended_led}
 use Rattle.cr_preproc.proofs.conditional.carry_out.Goals as goal
 

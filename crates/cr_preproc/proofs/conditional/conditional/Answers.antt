@@ -1,6 +1,6 @@
 use Rattle.std.proofs.Common.{[], ap}
 use Rattle.cr_macros.specs.Tokens.{token_of, tokens_of}
-use Rattle.cr_preproc.specs.Conditionals.{is_word_live}
+use Rattle.cr_phase4.specs.Conditionals.{is_word_live}
 use Rattle.cr_preproc.proofs.ConditionalSteps.{word_noted}
 use Rattle.cr_preproc.proofs.conditional.conditional.Goals as goal
 

@@ -1,7 +1,7 @@
 use Rattle.std.proofs.Common.{[], sym, ap, ◌∙◌}
 use Rattle.std.proofs.lemmas.List.{take-map}
 use Rattle.cr_macros.specs.Tokens.{token_of, tokens_of}
-use Rattle.cr_preproc.specs.Definition as spec
+use Rattle.cr_phase4.specs.Definition as spec
 use Rattle.cr_preproc.proofs.ByTexts.{close_same}
 use Rattle.cr_preproc.proofs.definitions.inside.Goals as goal
 

@@ -1,7 +1,7 @@
 use Rattle.std.proofs.Common.{sym, subst}
 use Rattle.cr_cond.specs.Value.{IsAnswer, numbered, value_of}
 use Rattle.cr_macros.specs.Tokens.{tokens_of}
-use Rattle.cr_preproc.specs.Conditionals.{list_value}
+use Rattle.cr_phase4.specs.Conditionals.{list_value}
 use Rattle.cr_preproc.specs.Truths.{IsTruth}
 use Rattle.cr_preproc.proofs.Lexemes.{lexemes_same, answers}
 use Rattle.cr_preproc.proofs.evaluate.is_true.Goals as goal

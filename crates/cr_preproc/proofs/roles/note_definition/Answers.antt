@@ -3,8 +3,8 @@ use Rattle.cr_base.specs.declared.cause.Role.TheVariants as role
 use Rattle.cr_macros.specs.Definition.{text_of}
 use Rattle.cr_macros.specs.MacroTables.{macro_text}
 use Rattle.cr_macros.specs.Tokens.{token_of, tokens_of}
-use Rattle.cr_preproc.specs.Definition.{parameters_of}
-use Rattle.cr_preproc.specs.Traces.{all_seen_as, params_seen}
+use Rattle.cr_phase4.specs.Definition.{parameters_of}
+use Rattle.cr_phase4.specs.Traces.{all_seen_as, params_seen}
 use Rattle.cr_preproc.proofs.Marked.{parts_noted}
 use Rattle.cr_preproc.proofs.roles.note_definition.Goals as goal
 

@@ -2,7 +2,7 @@ use Rattle.std.proofs.Common.{◌≡◌, ◌++◌, drop}
 use Rattle.cr_macros.specs.Definition.{text_of}
 use Rattle.cr_macros.specs.MacroTables.{macro_text}
 use Rattle.cr_macros.specs.Tokens.{tokens_of}
-use Rattle.cr_preproc.specs.Traces.{params_seen}
+use Rattle.cr_phase4.specs.Traces.{params_seen}
 use Rattle.cr_preproc.proofs.roles.note_params.Given as goal
 
 abbrev pub invariant-loop-i : goal.invariant-loop-i

@@ -1,6 +1,6 @@
 use Rattle.std.proofs.Common.{◌≡◌, drop}
 use Rattle.cr_snapshot.specs.Files.{finding}
-use Rattle.cr_preproc.specs.Search.{search}
+use Rattle.cr_phase4.specs.Search.{search}
 use Rattle.cr_preproc.proofs.Searches.{behind}
 use Rattle.cr_preproc.proofs.search.first_file.Given as goal
 

@@ -2,7 +2,7 @@ use Rattle.std.proofs.Common.{◌≡◌, ◌+◌, ◌≤◌, [], List, length, R
 use Rattle.cr_macros.specs.Tokens.{Text, tokens_of}
 use Rattle.cr_preproc.specs.declared.expansion.Fault.{Fault}
 use Rattle.cr_preproc.specs.declared.turning.Doing.TheVariants as doing
-use Rattle.cr_preproc.specs.declared.open_ifs.OpenIf.{OpenIf}
+use Rattle.cr_phase4.specs.declared.conditionals.OpenIf.{OpenIf}
 use Rattle.cr_preproc.specs.OpenFiles.{Reading, reading_of, IsOpen}
 use Rattle.cr_preproc.specs.Progressing.{state_of}
 use Rattle.cr_preproc.specs.Leading.{chosen, IsDecided}

@@ -1,7 +1,7 @@
 use Rattle.std.specs.Prelude.{[]}
 use Rattle.cr_macros.specs.Tokens.{tokens_of}
-use Rattle.cr_preproc.specs.Search.{world_of}
-use Rattle.cr_preproc.specs.Preprocessing.{does_file}
+use Rattle.cr_phase4.specs.Search.{world_of}
+use Rattle.cr_phase4.specs.Preprocessing.{does_file}
 use Rattle.cr_preproc.specs.Leading.{includes_given}
 use Rattle.cr_preproc.proofs.turning.after_include.Goals as goal
 

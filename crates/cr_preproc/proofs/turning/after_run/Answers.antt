@@ -2,9 +2,9 @@ use Rattle.std.proofs.Common.{sym, ◌∙◌, subst, refl, inl}
 use Rattle.std.specs.Prelude.{[]}
 use Rattle.cr_macros.specs.Tokens.{tokens_of}
 use Rattle.cr_preproc.specs.declared.turning.Doing.TheVariants as doing
-use Rattle.cr_preproc.specs.Tasks.{Task, Nothing, Goes, Done, ◌>>>◌}
-use Rattle.cr_preproc.specs.Lines.{line_of}
-use Rattle.cr_preproc.specs.Search.{world_of}
+use Rattle.cr_phase4.specs.Tasks.{Task, Nothing, Goes, Done, ◌>>>◌}
+use Rattle.cr_phase4.specs.Lines.{line_of}
+use Rattle.cr_phase4.specs.Search.{world_of}
 use Rattle.cr_preproc.specs.OpenFiles.{reading_of, IsOpen}
 use Rattle.cr_preproc.specs.Progressing.{state_of}
 use Rattle.cr_preproc.specs.Leading.{Leads}
@@ -23,8 +23,6 @@ returns-in-Fails c = record {
       let files = c.args.context.snapshot.now in
       let q = c.args.progress.now in
       let before = λ (k : Task Nothing). doing_left w u p (reading_of p.names files c.args.file.now) k d in (
-        0,
-        inl refl,
         λ k. (subst (λ next. Leads 0 p q (before k) (then_left w u (reading_of q.names files c.args.file.now) k next (Goes Done (state_of q) []))) c.in-Fails.is (h k)),
         c.requires.good,
       );

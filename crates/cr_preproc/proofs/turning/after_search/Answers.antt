@@ -1,8 +1,8 @@
 use Rattle.std.proofs.Common.{◌≡◌, refl, sym, ap, ◌∙◌}
 use Rattle.cr_snapshot.specs.Files.{finding}
-use Rattle.cr_preproc.specs.Search as searching
-use Rattle.cr_preproc.specs.Search.{world_of}
-use Rattle.cr_preproc.specs.Directives.{opens, opens_found}
+use Rattle.cr_phase4.specs.Search as searching
+use Rattle.cr_phase4.specs.Search.{world_of}
+use Rattle.cr_phase4.specs.Directives.{opens, opens_found}
 use Rattle.cr_preproc.specs.Seen.{seen_search}
 use Rattle.cr_preproc.specs.Turning.{enters}
 use Rattle.cr_preproc.proofs.Openings.{misses_file, finds_file, found_present, opened_behind}

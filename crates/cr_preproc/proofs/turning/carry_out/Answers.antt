@@ -1,6 +1,6 @@
 use Rattle.std.proofs.Common.{[], refl, sym, ap, ◌∙◌, arith}
 use Rattle.cr_macros.specs.Tokens.{token_of, tokens_of}
-use Rattle.cr_preproc.specs.Lines.{line_of}
+use Rattle.cr_phase4.specs.Lines.{line_of}
 use Rattle.cr_preproc.specs.OpenFiles.{Reading}
 use Rattle.cr_preproc.specs.Seen.{seen_line}
 use Rattle.cr_preproc.specs.declared.turning.Doing.TheVariants as doing

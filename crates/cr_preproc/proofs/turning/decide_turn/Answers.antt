@@ -6,7 +6,7 @@ use Rattle.cr_preproc.specs.declared.expansion.Use.{Use}
 use Rattle.cr_preproc.specs.declared.expansion.Use.TheVariants as use1
 use Rattle.cr_preproc.specs.declared.turning.Doing.TheVariants as doing
 use Rattle.cr_preproc.specs.OpenFiles.{reading_of, IsOpen}
-use Rattle.cr_preproc.specs.Runs.{runs}
+use Rattle.cr_phase4.specs.Runs.{runs}
 use Rattle.cr_preproc.specs.Turning.{IsFitting}
 use Rattle.cr_preproc.proofs.DecideTurns.{fails_next, ends_next}
 use Rattle.cr_preproc.specs.Progressing.{state_of}

@@ -2,12 +2,12 @@ use Rattle.std.proofs.Common.{◌≡◌, ap, sym, ◌∙◌, subst, arith}
 use Rattle.std.specs.Prelude.{[]}
 use Rattle.cr_base.specs.declared.cause.Role.TheVariants as role
 use Rattle.cr_macros.specs.Tokens.{token_of, tokens_of}
-use Rattle.cr_preproc.specs.Tasks.{Task, Nothing, tell, marks, ◌>>>◌}
-use Rattle.cr_preproc.specs.Lines as lines
-use Rattle.cr_preproc.specs.Lines.{Line, Directive, Wordless, Plain, Empty, Conditional}
-use Rattle.cr_preproc.specs.Search.{world_of}
-use Rattle.cr_preproc.specs.Preprocessing.{does_file}
-use Rattle.cr_preproc.specs.Directives as spec
+use Rattle.cr_phase4.specs.Tasks.{Task, Nothing, tell, marks, ◌>>>◌}
+use Rattle.cr_phase4.specs.Lines as lines
+use Rattle.cr_phase4.specs.Lines.{Line, Directive, Wordless, Plain, Empty, Conditional}
+use Rattle.cr_phase4.specs.Search.{world_of}
+use Rattle.cr_phase4.specs.Preprocessing.{does_file}
+use Rattle.cr_phase4.specs.Directives as spec
 use Rattle.cr_preproc.specs.Leading.{IsDirected}
 use Rattle.cr_preproc.proofs.DirectiveTurns.{directive_behind, plain_behind, empty_behind, conditional_behind}
 use Rattle.cr_preproc.proofs.Falls.{below_reads}

@@ -10,8 +10,8 @@ use Rattle.cr_preproc.specs.Falling.{rank}
 use Rattle.cr_preproc.specs.Leading.{decided}
 use Rattle.cr_preproc.specs.OpenFiles.{reading_of}
 use Rattle.cr_preproc.specs.Progressing.{state_of}
-use Rattle.cr_preproc.specs.Runs.{after_run}
-use Rattle.cr_preproc.specs.Tasks.{go_on, ◌>>>◌}
+use Rattle.cr_phase4.specs.Runs.{after_run}
+use Rattle.cr_phase4.specs.Tasks.{go_on, ◌>>>◌}
 use Rattle.cr_preproc.specs.Turning.{doing_left, file_goes, led_left}
 use Rattle.cr_preproc.proofs.LineTurns.{list_begins, where_ok}
 use Rattle.cr_preproc.proofs.Falls.{empty_below, rank_below}

@@ -1,7 +1,7 @@
 use Rattle.std.proofs.Common.{◌<◌, subst, arith}
 use Rattle.cr_preproc.specs.Falling.{IsUnexpanded}
 use Rattle.cr_macros.specs.Tokens.{tokens_of}
-use Rattle.cr_preproc.specs.Search.{world_of}
+use Rattle.cr_phase4.specs.Search.{world_of}
 use Rattle.cr_preproc.proofs.DirectiveTurns.{follow_goes, follow_fails, follow_looks, follow_expands}
 use Rattle.cr_preproc.proofs.Falls.{below_reads, below_looks}
 use Rattle.cr_preproc.proofs.turning.follow_directed.Goals as goal

@@ -1,9 +1,9 @@
 use Rattle.std.proofs.Common.{◌∙◌, List, [], ap, sym, subst, refl, inl}
 use Rattle.cr_base.specs.declared.token.PpTok.{PpTok}
 use Rattle.cr_macros.specs.Tokens.{tokens_of}
-use Rattle.cr_preproc.specs.Tasks.{Task, Nothing, Ends}
-use Rattle.cr_preproc.specs.Search.{world_of}
-use Rattle.cr_preproc.specs.Preprocessing.{does_file}
+use Rattle.cr_phase4.specs.Tasks.{Task, Nothing, Ends}
+use Rattle.cr_phase4.specs.Search.{world_of}
+use Rattle.cr_phase4.specs.Preprocessing.{does_file}
 use Rattle.cr_preproc.specs.OpenFiles.{reading_of, IsOpen}
 use Rattle.cr_preproc.specs.declared.expansion.Use.TheVariants as use1
 use Rattle.cr_preproc.specs.Expanding.{IsUsed, end_by}
@@ -55,8 +55,6 @@ returns-in-Fails c = record {
       let w = world_of c.args.context.snapshot.now in
       let p = c.args.progress.now in
       let q = c.step.new.progress in (
-        0,
-        inl refl,
         λ k.
             subst (λ end. Leads {A = Nothing} 0 p q (include_left w c.args.context.unit.now p (reading_of p.names c.args.context.snapshot.now c.args.file.now) k c.args.expansion c.args.given.items c.args.hash) (Ends end [])) (sym c.at.ensures)
             (include_fails w c.args.context.unit.now c.args.context.snapshot.now p q c.args.file.now c.args.expansion c.args.hash c.args.given.items (end_by c.in-Fails.fault) i.1 i.2.told k),

@@ -3,10 +3,10 @@ use Rattle.cr_snapshot.specs.Files.{finding}
 use Rattle.cr_preproc.specs.declared.turning.Doing.{Doing}
 use Rattle.cr_preproc.specs.declared.turning.Doing.TheVariants as doing
 use Rattle.cr_preproc.specs.declared.turning.Turned.{Turned}
-use Rattle.cr_preproc.specs.Tasks.{Nothing, Reply, ◌>>>◌, go_on}
-use Rattle.cr_preproc.specs.Search.{world_of, search}
-use Rattle.cr_preproc.specs.Directives.{Opening, opens}
-use Rattle.cr_preproc.specs.Preprocessing.{does_file}
+use Rattle.cr_phase4.specs.Tasks.{Nothing, Reply, ◌>>>◌, go_on}
+use Rattle.cr_phase4.specs.Search.{world_of, search}
+use Rattle.cr_phase4.specs.Directives.{Opening, opens}
+use Rattle.cr_phase4.specs.Preprocessing.{does_file}
 use Rattle.cr_preproc.specs.OpenFiles.{reads_file, reading_of}
 use Rattle.cr_preproc.specs.Seen.{seen_search}
 use Rattle.cr_preproc.specs.Turning.{IsOpened, IsTurned}

@@ -1,7 +1,7 @@
 use Rattle.std.proofs.Common.{◌≡◌, false, sym, ap, ◌∙◌}
 use Rattle.cr_macros.specs.Tokens.{has}
-use Rattle.cr_preproc.specs.Lines as lines
-use Rattle.cr_preproc.specs.Directives.{Opening}
+use Rattle.cr_phase4.specs.Lines as lines
+use Rattle.cr_phase4.specs.Directives.{Opening}
 use Rattle.cr_preproc.specs.Progressing.{state_of}
 use Rattle.cr_preproc.specs.OpenFiles.{reading_of}
 use Rattle.cr_preproc.specs.Turning.{enters}

@@ -3,7 +3,7 @@ use Rattle.cr_preproc.specs.declared.turning.Then.TheVariants as then
 use Rattle.cr_preproc.specs.OpenFiles.{reading_of}
 use Rattle.cr_preproc.specs.OpenFileSteps.{TellsLine, TellsNext}
 use Rattle.cr_preproc.specs.Progressing.{state_of}
-use Rattle.cr_preproc.specs.Search.{world_of}
+use Rattle.cr_phase4.specs.Search.{world_of}
 use Rattle.cr_preproc.proofs.NextTurns.{as_read, next_turn, fault_next, end_next}
 use Rattle.cr_preproc.proofs.OpenLater.{named_of}
 use Rattle.cr_preproc.proofs.Falls.{reads_some, begun_most, falls_to, run_falls}

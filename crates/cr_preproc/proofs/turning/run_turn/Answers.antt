@@ -1,16 +1,15 @@
-use Rattle.std.proofs.Common.{◌≤◌, [], ap, sym, ◌∙◌, subst, refl, inl}
+use Rattle.std.proofs.Common.{◌≤◌, [], ap, sym, ◌∙◌, subst, refl}
 use Rattle.cr_expand.specs.declared.machine.TheConstants.{LIMIT}
 use Rattle.cr_preproc.specs.declared.expansion.Use.TheVariants as use1
 use Rattle.cr_preproc.specs.declared.turning.Doing.TheVariants as doing
 use Rattle.cr_preproc.specs.OpenFiles.{reading_of}
 use Rattle.cr_preproc.specs.Progressing.{state_of}
-use Rattle.cr_preproc.specs.Search.{world_of}
+use Rattle.cr_phase4.specs.Search.{world_of}
 use Rattle.cr_preproc.specs.Expanding.{IsUsed, end_by, ahead_in, table_for}
-use Rattle.cr_preproc.specs.Tasks.{Nothing, Ends}
+use Rattle.cr_phase4.specs.Tasks.{Nothing, Ends}
 use Rattle.cr_preproc.specs.Leading.{Leads}
 use Rattle.cr_preproc.specs.Turning.{doing_left}
 use Rattle.cr_preproc.proofs.Turns.{with_used, used_good, run_goes, run_gives, run_ends, run_fails, run_working}
-use Rattle.cr_preproc.proofs.Falls.{given_falls}
 use Rattle.cr_preproc.proofs.turning.run_turn.Goals as goal
 
 pub returns-in-Goes : goal.returns-in-Goes
@@ -27,14 +26,13 @@ returns-in-Goes c = record {
   falls = tt;
 }
 
-pub returns-in_ok-turned-in-Gives : goal.returns-in_ok-turned-in-Gives
-returns-in_ok-turned-in-Gives c = record {
+pub returns-in_ok-doing-in-Gives : goal.returns-in_ok-doing-in-Gives
+returns-in_ok-doing-in-Gives c = record {
   turned =
       let i : IsUsed c.args.progress.now c.step.new.progress c.args.expansion c.step.new.self (use1.Gives c.in-Gives.t) = subst (IsUsed c.args.progress.now c.step.new.progress c.args.expansion c.step.new.self) c.in-Gives.is c.in_ok-step.ensures.used in
       run_gives c.defined_macros_are_known.ensures (world_of c.args.context.snapshot.now) c.args.context.unit.now c.args.context.snapshot.now c.args.progress.now c.step.new.progress c.give.new.progress c.args.file.now c.args.expansion c.step.new.self c.args.then c.used-progress-in-Gives.result c.in-Gives.t
-      c.requires.good c.requires.open c.requires.line c.requires.expanding c.requires.literal c.in_ok-step.ensures.good c.used-progress-in-Gives.ensures i c.in_ok-turned-in-Gives.turned c.in_ok-turned-in-Gives.ensures.given;
-  falls =
-      given_falls _ c.give.new.progress c.args.progress.now c.give.new.progress c.in-Gives.t c.args.file.now c.args.file.now (doing.Expands c.args.expansion c.args.then) (doing.Expands c.step.new.self c.args.then) c.in_ok-turned-in-Gives.turned c.in_ok-turned-in-Gives.ensures.given;
+      c.requires.good c.requires.open c.requires.line c.requires.expanding c.requires.literal c.in_ok-step.ensures.good c.used-progress-in-Gives.ensures i c.in_ok-doing-in-Gives.field-0 c.in_ok-doing-in-Gives.ensures.given;
+  falls = tt;
 }
 
 pub returns-in_ok-turned-in-Ends : goal.returns-in_ok-turned-in-Ends
@@ -56,8 +54,6 @@ returns-in-Fails c = record {
       let i : IsUsed p q c.args.expansion c.step.new.self (use1.Fails c.in-Fails.fault) = subst (IsUsed p q c.args.expansion c.step.new.self) c.in-Fails.is c.in_ok-step.ensures.used in
       let w = world_of c.args.context.snapshot.now in
       let r = reading_of p.names c.args.context.snapshot.now c.args.file.now in (
-        0,
-        inl refl,
         λ k.
             subst (λ end. Leads {A = Nothing} 0 p q (doing_left w c.args.context.unit.now p r k (doing.Expands c.args.expansion c.args.then)) (Ends end [])) (sym c.earlier.ensures)
             (run_fails w c.args.context.unit.now r k c.args.then p q (table_for p c.args.expansion) (state_of p) (ahead_in p c.args.expansion) (end_by c.in-Fails.fault) i.0 i.2.told),

@@ -1,6 +1,6 @@
 use Rattle.std.proofs.Common.{◌≡◌, ◌<◌, length, refl, sym, ap, subst}
 use Rattle.cr_preproc.specs.OpenFiles.{IsOpen, bytes_of, bytes_at}
-use Rattle.cr_preproc.specs.Search.{world_of}
+use Rattle.cr_phase4.specs.Search.{world_of}
 use Rattle.cr_preproc.proofs.NextTurns.{as_read, next_turn, limit_turn, took_turn}
 use Rattle.cr_preproc.proofs.OpenLater.{open_reading}
 use Rattle.cr_preproc.proofs.Falls.{reads_some, run_falls}

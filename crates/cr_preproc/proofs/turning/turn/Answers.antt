@@ -1,6 +1,6 @@
 use Rattle.std.proofs.Common.{sym, ◌∙◌, subst}
 use Rattle.cr_preproc.specs.declared.turning.Doing.{Doing}
-use Rattle.cr_preproc.specs.Search.{world_of}
+use Rattle.cr_phase4.specs.Search.{world_of}
 use Rattle.cr_preproc.specs.Turning.{IsTurned}
 use Rattle.cr_preproc.specs.Falling.{Falls}
 use Rattle.cr_preproc.proofs.turning.turn.Goals as goal

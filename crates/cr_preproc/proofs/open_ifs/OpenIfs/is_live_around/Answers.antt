@@ -1,10 +1,10 @@
 use Rattle.std.proofs.Common.{◌≡◌, ◌-◌, ◌<◌, false, List, [], ◌∷◌, length, get_or, refl, sym, ap, ◌∙◌, arith, rules}
 use Rattle.std.specs.Prelude.{reverse}
 use Rattle.std.proofs.lemmas.List.{get_or-reverse, length-reverse}
-use Rattle.cr_preproc.specs.declared.open_ifs.Group.{Group}
-use Rattle.cr_preproc.specs.declared.open_ifs.Group.TheVariants.{Taken, Before, Past}
-use Rattle.cr_preproc.specs.declared.open_ifs.OpenIf.{OpenIf}
-use Rattle.cr_preproc.specs.Conditionals as spec
+use Rattle.cr_phase4.specs.declared.conditionals.Group.{Group}
+use Rattle.cr_phase4.specs.declared.conditionals.Group.TheVariants.{Taken, Before, Past}
+use Rattle.cr_phase4.specs.declared.conditionals.OpenIf.{OpenIf}
+use Rattle.cr_phase4.specs.Conditionals as spec
 use Rattle.cr_preproc.proofs.open_ifs.OpenIfs.is_live_around.Goals as goal
 
 second : (ys : List OpenIf) (d : OpenIf) → 1 < length ys → spec.is_live_around ys ≡ spec.is_taken (get_or ys 1 d).group

@@ -3,7 +3,7 @@ use Rattle.std.proofs.lemmas.List.{nil_from_length}
 use Rattle.std.specs.Vec.{vec_len}
 use Rattle.std.specs.Option.{MatchOption}
 use Rattle.cr_preproc.specs.declared.preproc.Ending.TheVariants as ending
-use Rattle.cr_preproc.specs.Search.{world_of}
+use Rattle.cr_phase4.specs.Search.{world_of}
 use Rattle.cr_preproc.specs.Turning.{IsTurned}
 use Rattle.cr_preproc.proofs.UnitTurns.{steps_turn, goes_turn, ends_turn, needs_turn, opens_turn, closes_turn}
 use Rattle.cr_preproc.specs.Falling.{Falls}

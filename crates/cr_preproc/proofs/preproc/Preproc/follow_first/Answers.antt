@@ -1,7 +1,7 @@
 use Rattle.std.proofs.Common.{sym, subst, refl, Some, None}
 use Rattle.cr_preproc.specs.declared.preproc.Ending.TheVariants as ending
-use Rattle.cr_preproc.specs.Search.{world_of}
-use Rattle.cr_preproc.specs.Preprocessing.{does_first_file}
+use Rattle.cr_phase4.specs.Search.{world_of}
+use Rattle.cr_phase4.specs.Preprocessing.{does_first_file}
 use Rattle.cr_preproc.specs.Turning.{IsOpened}
 use Rattle.cr_preproc.specs.Preprocs.{TurnLeads}
 use Rattle.cr_preproc.specs.Falling.{CountsFile, TurnFalls}

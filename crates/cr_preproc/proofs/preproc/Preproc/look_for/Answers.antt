@@ -1,10 +1,10 @@
 use Rattle.std.proofs.Common.{◌≡◌, [], ◌∷◌, ◌++◌, refl, sym, ap, subst, ◌∙◌}
 use Rattle.cr_snapshot.specs.Files.{finding}
-use Rattle.cr_preproc.specs.Tasks.{Needs, Ends}
-use Rattle.cr_preproc.specs.Search.{world_of, search}
-use Rattle.cr_preproc.specs.Lines.{place_in}
-use Rattle.cr_preproc.specs.Directives.{opens}
-use Rattle.cr_preproc.specs.Preprocessing.{does_file, levels}
+use Rattle.cr_phase4.specs.Tasks.{Needs, Ends}
+use Rattle.cr_phase4.specs.Search.{world_of, search}
+use Rattle.cr_phase4.specs.Lines.{place_in}
+use Rattle.cr_phase4.specs.Directives.{opens}
+use Rattle.cr_phase4.specs.Preprocessing.{does_file, levels}
 use Rattle.cr_preproc.specs.Progressing.{state_of}
 use Rattle.cr_preproc.specs.Turning.{IsOpened}
 use Rattle.cr_preproc.proofs.FirstFiles.{unknown_path, first_is_wanted, number_is}

@@ -1,7 +1,7 @@
 use Rattle.std.proofs.Common.{refl, sym, ap, ◌∙◌, Some}
 use Rattle.cr_preproc.specs.declared.preproc.Ending.TheVariants as ending
-use Rattle.cr_preproc.specs.Search.{world_of}
-use Rattle.cr_preproc.specs.Preprocessing.{does_first_file}
+use Rattle.cr_phase4.specs.Search.{world_of}
+use Rattle.cr_phase4.specs.Preprocessing.{does_first_file}
 use Rattle.cr_preproc.proofs.UnitSteps.{of_search, same_but_progress, done_turn}
 use Rattle.cr_preproc.proofs.Falls.{ended_falls}
 use Rattle.cr_preproc.proofs.preproc.Preproc.open_first.Goals as goal

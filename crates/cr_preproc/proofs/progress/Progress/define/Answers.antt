@@ -1,7 +1,7 @@
 use Rattle.std.proofs.Common.{drop}
 use Rattle.cr_macros.specs.Tokens.{tokens_of}
-use Rattle.cr_preproc.specs.Definition.{definition}
-use Rattle.cr_preproc.proofs.TextsKept.{all_named}
+use Rattle.cr_phase4.specs.Definition.{definition}
+use Rattle.cr_preproc.proofs.NamesGrow.{all_named}
 use Rattle.cr_preproc.proofs.Definings.{defined_now, defined_did}
 use Rattle.cr_preproc.proofs.progress.Progress.define.Goals as goal
 

@@ -1,7 +1,7 @@
 use Rattle.std.proofs.Common.{[], refl, sym, ap, ◌++◌, ◌∙◌}
 use Rattle.cr_macros.specs.Definition.{text_of}
 use Rattle.cr_macros.specs.Tokens.{takes, token_of}
-use Rattle.cr_preproc.specs.Tasks.{marks}
+use Rattle.cr_phase4.specs.Tasks.{marks}
 use Rattle.cr_preproc.specs.Progressing.{IsNotOpaque}
 use Rattle.cr_preproc.proofs.Marked.{told}
 use Rattle.cr_preproc.proofs.Progresses.{taking_marks}

@@ -1,7 +1,7 @@
 use Rattle.std.proofs.Common.{refl, sym, ap, ◌++◌, ◌∙◌}
 use Rattle.cr_macros.specs.Definition.{text_of}
 use Rattle.cr_macros.specs.Tokens.{tokens_of}
-use Rattle.cr_preproc.specs.Directives.{all_marks}
+use Rattle.cr_phase4.specs.Directives.{all_marks}
 use Rattle.cr_preproc.specs.Progressing.{IsNotOpaque}
 use Rattle.cr_preproc.proofs.Marked.{all_told}
 use Rattle.cr_preproc.proofs.Progresses.{taking_all}

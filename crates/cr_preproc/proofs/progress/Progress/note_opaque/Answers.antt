@@ -2,7 +2,7 @@ use Rattle.std.proofs.Common.{◌≡◌, length, map, refl, ap, ◌++◌, ◌∙
 use Rattle.cr_base.specs.declared.cause.Role.TheVariants as role
 use Rattle.cr_macros.specs.Definition.{text_of}
 use Rattle.cr_macros.specs.Tokens.{tokens_of}
-use Rattle.cr_preproc.specs.Traces.{all_seen_as}
+use Rattle.cr_phase4.specs.Traces.{all_seen_as}
 use Rattle.cr_preproc.proofs.Notings.{opaque_did, rest_of}
 use Rattle.cr_preproc.proofs.progress.Progress.note_opaque.Goals as goal
 

@@ -1,6 +1,6 @@
 use Rattle.std.proofs.Common.{[], None, sym, subst}
 use Rattle.cr_macros.specs.Tokens.{token_of, tokens_of}
-use Rattle.cr_preproc.specs.Definition as spec
+use Rattle.cr_phase4.specs.Definition as spec
 use Rattle.cr_macros.specs.Definition.{text_of}
 use Rattle.cr_preproc.specs.Seen.{SetsText}
 use Rattle.cr_preproc.proofs.Definings.{undefined_did}

@@ -5,13 +5,13 @@ use Rattle.cr_base.specs.declared.cause.IllCause.TheVariants as cause
 use Rattle.cr_base.specs.declared.cause.Role.TheVariants as role
 use Rattle.cr_base.specs.declared.unit.Unit.{Unit}
 use Rattle.cr_macros.specs.Tokens.{Text, Token}
-use Rattle.cr_preproc.specs.Tasks.{Includes, End, Ill, Over, Took, Opened, State, Reply, Task, Nothing, ◌>>>◌, only, ready, ends, tell, marks, reads}
-use Rattle.cr_preproc.specs.Lines.{File, place_in, Line, Plain, Conditional, Directive, Empty, Wordless, line_of}
-use Rattle.cr_preproc.specs.Search.{World, words_path}
-use Rattle.cr_preproc.specs.Runs.{runs, inside}
-use Rattle.cr_preproc.specs.declared.open_ifs.OpenIf.{OpenIf}
-use Rattle.cr_preproc.specs.Conditionals.{is_live, conditional, is_word_live}
-use Rattle.cr_preproc.specs.Directives.{Opening, opens, directive}
+use Rattle.cr_phase4.specs.Tasks.{Includes, End, Ill, Over, Took, Opened, State, Reply, Task, Nothing, ◌>>>◌, only, ready, ends, tell, marks, reads}
+use Rattle.cr_phase4.specs.Lines.{File, place_in, Line, Plain, Conditional, Directive, Empty, Wordless, line_of}
+use Rattle.cr_phase4.specs.Search.{World, words_path}
+use Rattle.cr_phase4.specs.Runs.{runs, inside}
+use Rattle.cr_phase4.specs.declared.conditionals.OpenIf.{OpenIf}
+use Rattle.cr_phase4.specs.Conditionals.{is_live, conditional, is_word_live}
+use Rattle.cr_phase4.specs.Directives.{Opening, opens, directive}
 
 -- behind a line: the open conditionals of the file, the innermost first, and the run so far
 pub record Ahead : Type 0 where

@@ -16,10 +16,10 @@ use Rattle.cr_cond.specs.Constants.{unsigned_suffixes, plain_suffixes}
 use Rattle.cr_macros.specs.OneToken as one
 use Rattle.cr_macros.specs.Tokens.{Event as Telling, Rule, Taken}
 use Rattle.cr_macros.specs.Expansion.{expand}
-use Rattle.cr_preproc.specs.Tasks.{Tokens, Macros, Reading, Includes, State, End, Ill, Over, Needs, Event, Opened, Looked, Told, Final, Reply, Goes, Ends, Nothing, events_of}
-use Rattle.cr_preproc.specs.Search.{World}
-use Rattle.cr_preproc.specs.Preprocessing.{preprocessed, does_unit, at_first}
-use Rattle.cr_preproc.specs.PreprocessingRun.{steps}
+use Rattle.cr_phase4.specs.Tasks.{Tokens, Macros, Reading, Includes, State, End, Ill, Over, Needs, Event, Opened, Looked, Told, Final, Reply, Goes, Ends, Nothing, events_of}
+use Rattle.cr_phase4.specs.Search.{World}
+use Rattle.cr_phase4.specs.Preprocessing.{preprocessed, does_unit, at_first}
+use Rattle.cr_phase4.specs.PreprocessingRun.{steps}
 
 -- lines, each with a line feed
 abbrev text : List (List ℕ) → List ℕ

@@ -4,8 +4,8 @@ use Rattle.std.specs.Prelude.{bytes_eq, not}
 use Rattle.cr_snapshot.specs.declared.known.KnownFile.{KnownFile}
 use Rattle.cr_snapshot.specs.Files.{Finding, Present, Absent, Unknown, told, finding_from, finding, StaysKnown}
 use Rattle.cr_macros.specs.Tokens.{Text}
-use Rattle.cr_preproc.specs.Search.{number_among}
-use Rattle.cr_preproc.specs.PreprocessingRun.{SnapshotsAgree}
+use Rattle.cr_phase4.specs.Search.{number_among}
+use Rattle.cr_phase4.specs.PreprocessingRun.{SnapshotsAgree}
 
 told_known : (n : ℕ) (found : Option (List ℕ)) → ¬ (told n found ≡ Unknown)
 told_known n None e = cc

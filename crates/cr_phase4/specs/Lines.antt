@@ -7,9 +7,9 @@ use Rattle.cr_lex.specs.Lexing.{Fault, OpenComment, Trigraph, lexed}
 use Rattle.cr_lex.specs.Lexing as lexing
 use Rattle.cr_macros.specs.Tokens.{Text, Token, is_ident}
 use Rattle.cr_macros.specs.Substitution.{is_hash}
-use Rattle.cr_preproc.specs.declared.line.Word.{Word}
-use Rattle.cr_preproc.specs.declared.line.Word.TheVariants.{If, Ifdef, Ifndef, Elif, Else, Endif}
-use Rattle.cr_preproc.specs.Tasks.{End, Ill}
+use Rattle.cr_phase4.specs.declared.conditionals.Word.{Word}
+use Rattle.cr_phase4.specs.declared.conditionals.Word.TheVariants.{If, Ifdef, Ifndef, Elif, Else, Endif}
+use Rattle.cr_phase4.specs.Tasks.{End, Ill}
 
 abbrev pub place_in : ℕ → ℕ → Place
 place_in file offset = record { path = record { 0 = file }; offset = offset }

@@ -3,10 +3,10 @@ use Rattle.std.specs.Prelude.{◌≡◌, ◌⊎◌, ◌++◌, ℕ, zero, suc, Bo
 use Rattle.cr_base.specs.declared.unit.Unit.{Unit}
 use Rattle.cr_macros.specs.Tokens.{Text, Token, Event as Telling, Rule, Taken}
 use Rattle.cr_snapshot.specs.Files.{Unknown}
-use Rattle.cr_preproc.specs.Tasks.{Reply, End, Ill, Over, Needs, Goes, Ends, Nothing, Event, Took, Opened, Looked, Defined, Told, Final, events_of}
+use Rattle.cr_phase4.specs.Tasks.{Reply, End, Ill, Over, Needs, Goes, Ends, Nothing, Event, Took, Opened, Looked, Defined, Told, Final, events_of}
 use Rattle.cr_snapshot.specs.declared.known.KnownFile.{KnownFile}
-use Rattle.cr_preproc.specs.Search.{World, world_of}
-use Rattle.cr_preproc.specs.Preprocessing.{preprocessed}
+use Rattle.cr_phase4.specs.Search.{World, world_of}
+use Rattle.cr_phase4.specs.Preprocessing.{preprocessed}
 
 abbrev pub is_rule : Telling → Bool
 is_rule Rule = true

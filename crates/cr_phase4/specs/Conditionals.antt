@@ -12,13 +12,13 @@ use Rattle.cr_cond.specs.Value.{is_zero_int, is_defined, value_of, numbered}
 use Rattle.cr_macros.specs.Tokens.{Text, Token, MacroText, is_ident, is_mark}
 use Rattle.cr_macros.specs.Substitution.{made, only_if}
 use Rattle.cr_macros.specs.Expansion.{predefined_named}
-use Rattle.cr_preproc.specs.Tasks.{Ill, Event, State, Task, ◌>>>◌, only, ends, tell, look, marks, in_directive}
-use Rattle.cr_preproc.specs.declared.line.Word.{Word}
-use Rattle.cr_preproc.specs.declared.line.Word.TheVariants.{If, Ifdef, Ifndef, Elif, Else, Endif}
-use Rattle.cr_preproc.specs.declared.open_ifs.Group.{Group}
-use Rattle.cr_preproc.specs.declared.open_ifs.Group.TheVariants.{Taken, Before, Past}
-use Rattle.cr_preproc.specs.declared.open_ifs.OpenIf.{OpenIf}
-use Rattle.cr_preproc.specs.Runs.{expands}
+use Rattle.cr_phase4.specs.Tasks.{Ill, Event, State, Task, ◌>>>◌, only, ends, tell, look, marks, in_directive}
+use Rattle.cr_phase4.specs.declared.conditionals.Word.{Word}
+use Rattle.cr_phase4.specs.declared.conditionals.Word.TheVariants.{If, Ifdef, Ifndef, Elif, Else, Endif}
+use Rattle.cr_phase4.specs.declared.conditionals.Group.{Group}
+use Rattle.cr_phase4.specs.declared.conditionals.Group.TheVariants.{Taken, Before, Past}
+use Rattle.cr_phase4.specs.declared.conditionals.OpenIf.{OpenIf}
+use Rattle.cr_phase4.specs.Runs.{expands}
 
 abbrev pub is_taken : Group → Bool
 is_taken Taken = true

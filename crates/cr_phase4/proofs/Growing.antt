@@ -8,16 +8,16 @@ use Rattle.cr_base.specs.declared.unit.Unit.{Unit}
 use Rattle.cr_snapshot.specs.Files.{Finding, Present, Absent, Unknown}
 use Rattle.cr_snapshot.specs.IncludeSearch.{is_apart, candidates}
 use Rattle.cr_macros.specs.Tokens.{Text, Token, has}
-use Rattle.cr_preproc.specs.Tasks.{End, Ill, Over, Needs, Event, Looked, Opened, State, Reply, Goes, Ends, Task, Nothing, behind, go_on, ◌>>>◌, only, ready, ends, tell, look, marks, reads, in_directive, events_of}
-use Rattle.cr_preproc.specs.Lines.{File, file_of, place_in, Line, Plain, Conditional, Directive, Empty, Wordless, line_of}
-use Rattle.cr_preproc.specs.Definition.{definition, undefined_name}
-use Rattle.cr_preproc.specs.Search.{World, Search, Finds, Misses, Lacks, search, unknown, looked_for, words_path}
-use Rattle.cr_preproc.specs.Runs.{runs, expands}
-use Rattle.cr_preproc.specs.declared.open_ifs.OpenIf.{OpenIf}
-use Rattle.cr_preproc.specs.Conditionals.{is_live}
-use Rattle.cr_preproc.specs.Directives.{Opening, Header, all_marks, header_name, site_of, opens_found, looks, opens, includes_expanded, includes, defines, undefines, pragma, plain_directive, directive}
-use Rattle.cr_preproc.specs.Preprocessing.{Ahead, ahead, where_live, by_line, at_end, takes_line, does_lines, does_file, levels, does_first_file, does_unit, at_first, preprocessed}
-use Rattle.cr_preproc.specs.PreprocessingRun.{Agrees, IsLargerEnd, IsLarger, GoesOn}
+use Rattle.cr_phase4.specs.Tasks.{End, Ill, Over, Needs, Event, Looked, Opened, State, Reply, Goes, Ends, Task, Nothing, behind, go_on, ◌>>>◌, only, ready, ends, tell, look, marks, reads, in_directive, events_of}
+use Rattle.cr_phase4.specs.Lines.{File, file_of, place_in, Line, Plain, Conditional, Directive, Empty, Wordless, line_of}
+use Rattle.cr_phase4.specs.Definition.{definition, undefined_name}
+use Rattle.cr_phase4.specs.Search.{World, Search, Finds, Misses, Lacks, search, unknown, looked_for, words_path}
+use Rattle.cr_phase4.specs.Runs.{runs, expands}
+use Rattle.cr_phase4.specs.declared.conditionals.OpenIf.{OpenIf}
+use Rattle.cr_phase4.specs.Conditionals.{is_live}
+use Rattle.cr_phase4.specs.Directives.{Opening, Header, all_marks, header_name, site_of, opens_found, looks, opens, includes_expanded, includes, defines, undefines, pragma, plain_directive, directive}
+use Rattle.cr_phase4.specs.Preprocessing.{Ahead, ahead, where_live, by_line, at_end, takes_line, does_lines, does_file, levels, does_first_file, does_unit, at_first, preprocessed}
+use Rattle.cr_phase4.specs.PreprocessingRun.{Agrees, IsLargerEnd, IsLarger, GoesOn}
 
 -- the same of any reply
 abbrev IsMoreEnd : {A : Type 0} → End → List Event → Reply A → Type 0

@@ -12,11 +12,11 @@ use Rattle.cr_base.specs.declared.unit.Unit.{Unit}
 use Rattle.cr_snapshot.specs.IncludeSearch.{candidates}
 use Rattle.cr_macros.specs.Tokens.{Text, Token, MacroText, is_ident, is_mark, has}
 use Rattle.cr_macros.specs.Substitution.{param}
-use Rattle.cr_preproc.specs.Tasks.{Ill, Needs, Event, Looked, Defined, State, Task, Nothing, ◌>>>◌, ready, ends, tell, look, change, marks, in_directive}
-use Rattle.cr_preproc.specs.Lines.{File, file_of}
-use Rattle.cr_preproc.specs.Definition.{Definition, definition, undefined_name}
-use Rattle.cr_preproc.specs.Search.{World, Search, Finds, Misses, Lacks, search, looked_for}
-use Rattle.cr_preproc.specs.Runs.{expands}
+use Rattle.cr_phase4.specs.Tasks.{Ill, Needs, Event, Looked, Defined, State, Task, Nothing, ◌>>>◌, ready, ends, tell, look, change, marks, in_directive}
+use Rattle.cr_phase4.specs.Lines.{File, file_of}
+use Rattle.cr_phase4.specs.Definition.{Definition, definition, undefined_name}
+use Rattle.cr_phase4.specs.Search.{World, Search, Finds, Misses, Lacks, search, looked_for}
+use Rattle.cr_phase4.specs.Runs.{expands}
 
 -- how a file at a path is opened
 abbrev pub Opening : Type 0

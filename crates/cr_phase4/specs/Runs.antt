@@ -8,7 +8,7 @@ use Rattle.cr_macros.specs.Tokens.{Text, Token}
 use Rattle.cr_macros.specs.Substitution.{in_quotes, escaped}
 use Rattle.cr_macros.specs.Expansion.{Table, Use, use_of, expand}
 use Rattle.cr_macros.specs.Uses.{put_for, is_given, left_behind}
-use Rattle.cr_preproc.specs.Tasks.{Macros, End, Ill, Over, Needs, State, Reply, Goes, Ends, Task, Nothing, ◌>>>◌, ready, ends, does, gives, events_of}
+use Rattle.cr_phase4.specs.Tasks.{Macros, End, Ill, Over, Needs, State, Reply, Goes, Ends, Task, Nothing, ◌>>>◌, ready, ends, does, gives, events_of}
 
 -- the macros of a state, in the file at a path
 abbrev pub table_in : Text → State → Table

@@ -1,6 +1,6 @@
 use Rattle.std.proofs.Common.{refl}
 use Rattle.cr_preproc.proofs.UnitSteps.{working_is}
-use Rattle.cr_preproc.proofs.preproc.Preproc.turn.Goals as goal
+use Rattle.cr_preproc.proofs.preproc.Preproc.turn_in_room.Goals as goal
 
 pub returns-in_ok-step-in-Some : goal.returns-in_ok-step-in-Some
 returns-in_ok-step-in-Some c = record {

@@ -8,7 +8,7 @@ use Rattle.cr_base.specs.declared.cause.Role.TheVariants as role
 use Rattle.cr_macros.specs.declared.macros.Seen.{Seen}
 use Rattle.cr_macros.specs.Tokens.{Text, Token, MacroText, Event as Telling, Rule, Taken, is_ident, takes}
 use Rattle.cr_macros.specs.Substitution.{params_of, index_of, param}
-use Rattle.cr_preproc.specs.Tasks.{Event, Took, Opened, Looked, Defined, Told, Final}
+use Rattle.cr_phase4.specs.Tasks.{Event, Took, Opened, Looked, Defined, Told, Final}
 
 -- The identifiers spelled old or new: what each is taken for at its place, the places at which the new name is defined as
 -- a macro, those at which the old one stands in the body of a macro with a parameter that is spelled new, and those in a

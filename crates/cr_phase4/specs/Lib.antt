@@ -1,0 +1,10 @@
+pub mod Tasks
+pub mod Lines
+pub mod Definition
+pub mod Search
+pub mod Runs
+pub mod Conditionals
+pub mod Directives
+pub mod Preprocessing
+pub mod PreprocessingRun
+pub mod Traces

@@ -1,5 +1,0 @@
-use Rattle.cr_preproc.proofs.Snapshots.{snapshots_agree}
-use Rattle.cr_preproc.proofs.larger_snapshots_agree.Goals as goal
-
-pub returns : goal.returns
-returns c = snapshots_agree c.known_files_stay_known.ensures.stays
