@@ -1,4 +1,5 @@
 pub mod Sets
+pub mod Onces
 pub mod Noted
 pub mod Numbers
 pub mod Bodies
