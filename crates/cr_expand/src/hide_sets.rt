@@ -1,10 +1,12 @@
 //! Hide sets by number, so that a token carries its set without a copy.
-ghost use Rattle.std.specs.Prelude.{◌≡◌, ℕ, ◌<◌, [], ◌∷◌, ◌^◌, false, IsTrue, IfOk, OnOk, OnErr, Some, MatchOption, if◌then◌else◌, length, slice_get};
+ghost use Rattle.std.specs.Prelude.{◌≡◌, ℕ, ◌<◌, [], ◌∷◌, ◌^◌, false, IsTrue, IfOk, OnOk, OnErr, IfSome, Some, MatchOption, if◌then◌else◌, length, slice_get};
+ghost use Rattle.std.specs.List.{All};
 ghost use Rattle.indexmap.specs.IndexSet.{insert_key};
 ghost use Rattle.cr_base.specs.declared.token.Name.{Name as TheName};
 ghost use Rattle.cr_macros.specs.Definition.{has_name};
 ghost use Rattle.cr_expand.specs.HideSets.{set_at, with_number, with_numbers, in_both, Puts, AreBelow, AreOnce, IsOver};
 
+use crate::hide_path::HidePath;
 use cr_base::{Name, OutOfMemory};
 use indexmap::IndexSet;
 use std::alloc::Global;
@@ -36,19 +38,25 @@ fn put(nodes: &mut IndexSet<Node>, node: Node) -> Result<usize, OutOfMemory>
 }
 
 /// Hide sets. Contracts see them as the list of the sets, each a list of names; set 0 is empty.
+///
+/// To ask for a name walks the set down to the path, which is led to each set that gets one name
+/// more. So where macros stand in one another, each costs the same, however deep it stands.
 #[derive(Drop)]
 pub struct HideSets {
+    alloc: Global,
     nodes: IndexSet<Node>,
+    path: HidePath,
 }
 
 impl Model for HideSets {
     ghost use Rattle.cr_expand.specs.HideSets.{Sets, sets_of, AreNodes};
+    ghost use Rattle.cr_expand.specs.HidePaths.{IsPath};
 
     ghost Value = { Sets };
 
     ghost view = { λ t. sets_of t.nodes.keys };
 
-    ghost invariant = { λ t. AreNodes t.nodes.keys };
+    ghost invariant = { λ t. AreNodes t.nodes.keys × IsPath (sets_of t.nodes.keys) t.path.steps.entries };
 }
 
 impl HideSets {
@@ -57,7 +65,9 @@ impl HideSets {
         ensures { result ≡ [] ∷ [] }
     {
         HideSets {
+            alloc,
             nodes: IndexSet::new(alloc),
+            path: HidePath::new(alloc),
         }
     }
 
@@ -73,6 +83,13 @@ impl HideSets {
         Some(nodes[set.0 - 1])
     }
 
+    // Whether a name is in a set, if the path leads through that; `last` is the name that made it.
+    fn on_path(&self, set: HideSet, last: Name, name: Name) -> Option<bool>
+        ensures { IfSome result (λ found. found ≡ has_name (set_at self.now set.0) name) }
+    {
+        self.path.has(set, last, name)
+    }
+
     /// Whether a name is in a set.
     pub fn has(&self, set: HideSet, name: Name) -> bool
         requires { set.0 < length self.now }
@@ -82,6 +99,9 @@ impl HideSets {
         while let Some(node) = self.node(at) {
             if node.name == name {
                 return true;
+            }
+            if let Some(found) = self.on_path(at, node.name, name) {
+                return found;
             }
             at = node.parent;
         }
@@ -138,6 +158,49 @@ impl HideSets {
         false
     }
 
+    // The sets from this one down to the path, which doesn't lead through them.
+    fn off_path(&self, set: HideSet) -> Result<Vec<HideSet>, OutOfMemory>
+        requires { set.0 < length self.now }
+        ensures { IfOk result (λ sets. All (λ s. s.0 < length self.now) sets.items) }
+    {
+        let mut sets = Vec::new(self.alloc);
+        let mut at = set;
+        while let Some(node) = self.node(at) {
+            if self.on_path(at, node.name, node.name).is_some() {
+                return Ok(sets);
+            }
+            sets.push(at)?;
+            at = node.parent;
+        }
+        Ok(sets)
+    }
+
+    // Leads the path on to a set from the one that it was made from.
+    fn follow(&mut self, set: HideSet) -> Result<(), OutOfMemory>
+        requires { set.0 < length self.old }
+        ensures { self.new ≡ self.old }
+    {
+        match self.node(set) {
+            None => Ok(()),
+            Some(node) => {
+                self.path.go(node.parent, node.name, set)?;
+                Ok(())
+            }
+        }
+    }
+
+    // Leads the path to a set.
+    fn lead(&mut self, set: HideSet) -> Result<(), OutOfMemory>
+        requires { set.0 < length self.old }
+        ensures { self.new ≡ self.old }
+    {
+        let sets = self.off_path(set)?;
+        for i in (0..sets.len()).rev() {
+            self.follow(sets[i])?;
+        }
+        Ok(())
+    }
+
     // A set with a name that it hasn't.
     fn with_new(&mut self, set: HideSet, name: Name) -> Result<HideSet, OutOfMemory>
         requires set { set.0 < length self.old }
@@ -157,6 +220,7 @@ impl HideSets {
         ensures kept { OnErr result (self.new ≡ self.old) }
         ensures below { (bound : ℕ) → name.0 < bound → AreBelow bound self.old → AreBelow bound self.new }
     {
+        self.lead(set)?;
         if self.has(set, name) {
             return Ok(set);
         }

@@ -8,7 +8,7 @@ pub returns-then-under-eq0 : goal.returns-then-under-eq0
 returns-then-under-eq0 c = λ _.
     over_empty (set_at c.args.self.now c.args.set.0) (set_at c.args.self.now c.args.under.0)
     (ap (set_at c.args.self.now) c.if-under-eq0.true ∙ subst (λ s. set_at s 0 ≡ []) c.self.view_is (first_is_empty c.self.inside.nodes.keys))
-    (subst (λ s. AreOnce (set_at s c.args.set.0)) c.self.view_is (set_once (sets_of c.self.inside.nodes.keys) c.args.set.0 c.self.invariant.once))
+    (subst (λ s. AreOnce (set_at s c.args.set.0)) c.self.view_is (set_once (sets_of c.self.inside.nodes.keys) c.args.set.0 c.self.invariant.0.once))
 
 pub loop-node-preserved : goal.loop-node-preserved
 loop-node-preserved c =
