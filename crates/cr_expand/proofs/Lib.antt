@@ -1,4 +1,6 @@
 pub mod Sets
+pub mod Onces
+pub mod HidePaths
 pub mod Noted
 pub mod Numbers
 pub mod Bodies

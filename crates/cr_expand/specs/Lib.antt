@@ -1,4 +1,5 @@
 pub mod HideSets
+pub mod HidePaths
 pub mod Held
 pub mod Items
 pub mod Parts

@@ -9,6 +9,7 @@ mod good_macros;
 mod groups;
 mod head;
 mod held;
+mod hide_path;
 mod hide_sets;
 mod hiding;
 mod items;

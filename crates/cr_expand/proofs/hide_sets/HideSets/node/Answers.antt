@@ -17,4 +17,4 @@ pub returns : goal.returns
 returns c =
     let a = ap length c.self.view_is in
     let b = length_sets c.self.inside.nodes.keys in
-    node_here c.args.self.now c.self.inside.nodes.keys c.args.set.0 c.index.result.now c.self.view_is c.self.invariant (omega arith) (omega (arith, a, b, c.requires)) (get_or_from_slice_get c.self.inside.nodes.keys (c.args.set.0 - 1) c.index.result.now c.index.result.now c.index.ensures)
+    node_here c.args.self.now c.self.inside.nodes.keys c.args.set.0 c.index.result.now c.self.view_is c.self.invariant.0.earlier (omega arith) (omega (arith, a, b, c.requires)) (get_or_from_slice_get c.self.inside.nodes.keys (c.args.set.0 - 1) c.index.result.now c.index.result.now c.index.ensures)

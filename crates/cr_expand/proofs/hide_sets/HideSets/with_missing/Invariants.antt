@@ -1,6 +1,6 @@
 use Rattle.std.proofs.Common.{◌≡◌, ℕ, ◌<◌, drop, length}
 use Rattle.cr_expand.specs.HideSets.{set_at, with_numbers, Grows, AreBelow}
-use Rattle.cr_expand.proofs.hide_sets.HideSets.with_all.Given as goal
+use Rattle.cr_expand.proofs.hide_sets.HideSets.with_missing.Given as goal
 
 abbrev pub invariant-loop-i : goal.invariant-loop-i
 invariant-loop-i l = record {

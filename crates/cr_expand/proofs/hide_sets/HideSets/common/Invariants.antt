@@ -1,6 +1,6 @@
 use Rattle.std.proofs.Common.{◌≡◌, ℕ, ◌<◌, drop, length}
 use Rattle.cr_expand.specs.HideSets.{set_at, in_both, Grows, AreBelow}
-use Rattle.cr_expand.proofs.hide_sets.HideSets.both.Given as goal
+use Rattle.cr_expand.proofs.hide_sets.HideSets.common.Given as goal
 
 abbrev pub invariant-loop-i : goal.invariant-loop-i
 invariant-loop-i l = record {

@@ -1,0 +1,38 @@
+use Rattle.std.proofs.Common.{◌≡◌, ◌<◌, ◌-◌, length, rules, arith, ap, ◌∙◌, get_or}
+use Rattle.cr_macros.specs.Definition.{has_name}
+use Rattle.cr_expand.specs.HideSets.{set_at}
+use Rattle.cr_expand.proofs.Onces.{common_new}
+use Rattle.cr_expand.proofs.Sets.{name_below, grows_then, common_at}
+use Rattle.cr_expand.proofs.hide_sets.HideSets.common.Goals as goal
+
+pub with_wanted-requires-clause-new : goal.with_wanted-requires-clause-new
+with_wanted-requires-clause-new c =
+    let names = c.in_ok-names.names.items in
+    let long : c.loop-i.i - 1 < length names = search rules in
+    let here : c.index.result.now ≡ get_or names (c.loop-i.i - 1) c.index.result.now = c.index.ensures in
+    λ _. ap (λ x. has_name x c.index.result.now) c.loop-i.invariant.set.2
+    ∙ common_new names (set_at c.args.self.now c.args.other.0) (c.loop-i.i - 1) c.loop-i.i c.index.result.now c.in_ok-names.ensures.once (omega (arith, c.loop-i-test.true)) long here
+
+pub loop-i-preserved : goal.loop-i-preserved
+loop-i-preserved c =
+    let names = c.in_ok-names.names.items in
+    let n = c.index.result.now in
+    let long : c.loop-i.i - 1 < length names = search rules in
+    let here : n ≡ get_or names (c.loop-i.i - 1) n = c.index.ensures in
+    record {
+      below = λ bound h. c.in_ok-common.ensures.below bound (name_below bound c.args.self.now c.args.set.0 names (c.loop-i.i - 1) n h c.in_ok-names.ensures.names long here) (c.loop-i.invariant.below bound h);
+      set = (
+        grows_then c.args.self.now c.loop-i.self c.with_wanted.new.self c.loop-i.invariant.set.0 c.in_ok-common.ensures.puts.0,
+        c.in_ok-common.ensures.puts.1,
+        c.in_ok-common.ensures.puts.2 ∙ common_at names (set_at c.args.self.now c.args.other.0) (set_at c.loop-i.self c.loop-i.common.0) c.contains.result (c.loop-i.i - 1) c.loop-i.i n c.in_ok-names.ensures.once (omega (arith, c.loop-i-test.true)) long here
+            (c.contains.ensures ∙ c.in_ok-held.ensures n) c.loop-i.invariant.set.2,
+      );
+    }
+
+pub returns-in_err-common-clause-below : goal.returns-in_err-common-clause-below
+returns-in_err-common-clause-below c = λ bound h.
+    let names = c.in_ok-names.names.items in
+    let n = c.index.result.now in
+    let long : c.loop-i.i - 1 < length names = search rules in
+    let here : n ≡ get_or names (c.loop-i.i - 1) n = c.index.ensures in
+    c.in_err-common.ensures.below bound (name_below bound c.args.self.now c.args.set.0 names (c.loop-i.i - 1) n h c.in_ok-names.ensures.names long here) (c.loop-i.invariant.below bound h)
