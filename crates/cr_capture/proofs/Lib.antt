@@ -1,0 +1,7 @@
+pub mod Found
+pub mod Sought
+pub mod Outermost
+pub mod Beside
+pub mod Named
+pub mod Asked
+pub mod Declared
