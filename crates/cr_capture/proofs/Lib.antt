@@ -5,3 +5,8 @@ pub mod Beside
 pub mod Named
 pub mod Asked
 pub mod Declared
+pub mod Renamed
+pub mod KeptLookup
+pub mod KeptTag
+pub mod KeptLinkage
+pub mod KeptAsk

@@ -5,9 +5,15 @@ ghost use Rattle.std.specs.Prelude.{◌↔◌, Contains, IfOk};
 ghost use Rattle.cr_capture.specs.Conflicts.{Pair, IsConflict, IsVisible};
 
 mod finding;
+mod law;
+#[cfg(test)]
+mod tests;
 
 use cr_base::{Name, OutOfMemory};
 use cr_scope::{DeclNo, Scopes, Space};
+pub use law::{
+    renaming_keeps_a_new_tag, renaming_keeps_an_ask, renaming_keeps_linkage, renaming_keeps_lookup,
+};
 use std::alloc::Global;
 
 /// What may change its meaning by a renaming. Each has a token.
