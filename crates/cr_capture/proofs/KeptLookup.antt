@@ -1,16 +1,18 @@
 -- What a mention denotes is kept.
-use Rattle.std.proofs.Common.{◌≡◌, ℕ, ◌<◌, ◌≤◌, ◌⊎◌, inl, inr, Bool, true, false, cond, Some, refl, sym, ◌∙◌, ap, subst, arith}
+use Rattle.std.proofs.Common.{◌≡◌, ℕ, ◌<◌, ◌≤◌, ◌⊎◌, inl, inr, Bool, true, false, cond, Some, List, refl, sym, ◌∙◌, ap, subst, arith}
 use Rattle.std.specs.Prelude.{slice_get}
 use Rattle.std.proofs.lemmas.Bool.{cases_lt}
 use Rattle.cr_base.specs.declared.Name.{Name}
 use Rattle.cr_scope.specs.declared.Space.{Space}
+use Rattle.cr_scope.specs.declared.Space.TheVariants as space
 use Rattle.cr_scope.specs.declared.DeclNo.{DeclNo}
 use Rattle.cr_scope.specs.Declarations.{Entry, Flat, depth, is_prefix, number}
 use Rattle.cr_scope.specs.Meaning.{Sees, IsLookup, LookupMeans}
 use Rattle.cr_capture.specs.declared.Mention.TheVariants as mention
-use Rattle.cr_capture.specs.Renaming.{Class, renamed, all_renamed, name_after, IsRenaming, IsFree, AreFree, KeepsLookup}
+use Rattle.cr_capture.specs.Conflicts.{IsTypedef}
+use Rattle.cr_capture.specs.Renaming.{Class, renamed, all_renamed, name_after, IsRenaming, IsFree, AreFree, KeepsLookup, KeepsAnswer}
 use Rattle.cr_capture.proofs.Beside.{same_prefix}
-use Rattle.cr_capture.proofs.Renamed.{numbered, renamed_at, from_renamed, no_collision, lookup_one}
+use Rattle.cr_capture.proofs.Renamed.{numbered, renamed_at, from_renamed, no_collision, lookup_one, one_number_of}
 
 pub not_hidden : {m n j i : ℕ} → (n ≤ m → ⊥) → (m < n) ⊎ ((m ≡ n) × (j ≤ i))
 not_hidden {m} {n} h = elim (cases_lt m n) [ inl k ↦ inl k | inr k ↦ absurd (h k) ]
@@ -103,3 +105,22 @@ keeps_lookup means class old new f s name token d e of before free is =
     lookup_one f.present s (name_after class new e name) (all_renamed class new f).entries means (number d) (renamed class new e)
     (kept class old new f s name token d e of before free is)
     ∙ sym (lookup_one f.present s name f.entries means (number d) e is)
+
+-- what stands at one number is one declaration
+pub one_there : (es : List Entry) (i j : ℕ) (e g : Entry) → i ≡ j → slice_get es i ≡ Some e → slice_get es j ≡ Some g → e ≡ g
+one_there es i j e g q h k = let z : Some e ≡ Some g = sym h ∙ ap (slice_get es) q ∙ k in cc
+
+pub keeps_answer : LookupMeans → KeepsAnswer
+keeps_answer means class old new f name token d e of before free is =
+    let name_then : Name = name_after class new e name in
+    let es_then : List Entry = (all_renamed class new f).entries in
+    let then : IsLookup f.present space.Ordinary name_then es_then (number d) (renamed class new e) = kept class old new f space.Ordinary name token d e of before free is in (
+      λ h.
+          (let q : number h.0 ≡ number d = one_number_of f.present space.Ordinary name_then es_then means (number h.0) (number d) h.1 (renamed class new e) h.2 then in
+          let k : h.1 ≡ renamed class new e = one_there es_then (number h.0) (number d) h.1 (renamed class new e) q h.2.seen.there then.seen.there in
+          (d, e, is, subst IsTypedef k h.3)),
+      λ h.
+          (let q : number h.0 ≡ number d = one_number_of f.present space.Ordinary name f.entries means (number h.0) (number d) h.1 e h.2 is in
+          let k : h.1 ≡ e = one_there f.entries (number h.0) (number d) h.1 e q h.2.seen.there is.seen.there in
+          (d, renamed class new e, then, subst IsTypedef k h.3)),
+    )

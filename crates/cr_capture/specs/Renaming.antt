@@ -1,5 +1,5 @@
 -- A renaming of declarations, and what it keeps of mentions that have no conflict (C11 6.2.1, 6.2.2).
-use Rattle.std.specs.Prelude.{◌≡◌, ◌≢◌, ℕ, ◌+◌, ◌<◌, Bool, true, false, cond, Some, None, List, length, map, take, slice_get}
+use Rattle.std.specs.Prelude.{◌≡◌, ◌↔◌, ◌≢◌, ℕ, ◌+◌, ◌<◌, Bool, true, false, cond, Some, None, List, length, map, take, slice_get}
 use Rattle.cr_base.specs.declared.Name.{Name}
 use Rattle.cr_scope.specs.declared.Space.{Space}
 use Rattle.cr_scope.specs.declared.Space.TheVariants as space
@@ -67,6 +67,16 @@ KeepsLookup =
     → IsLookup f.present s name f.entries (number d) e
     → lookup f.present s (name_after class new e name) (all_renamed class new f).entries
     ≡ lookup f.present s name f.entries
+
+-- Nor does it change whether the mention, which was asked, is a typedef name.
+abbrev pub KeepsAnswer : Type 0
+KeepsAnswer =
+    (class : Class) (old new : Name) (f : Flat) (name : Name) (token : ℕ) (d : DeclNo) (e : Entry)
+    → IsRenaming class old new f.entries
+    → AreFree class f old new
+    → IsFree class f old new (mention.Named space.Ordinary name token (Some d))
+    → IsLookup f.present space.Ordinary name f.entries (number d) e
+    → IsTypeName (all_renamed class new f) (name_after class new e name) ↔ IsTypeName f name
 
 -- A tag use that finds nothing, and so declares its tag x, finds nothing after the renaming either.
 abbrev pub KeepsNewTag : Type 0

@@ -1,14 +1,15 @@
 //! The laws that a renaming keeps what each mention means that has no conflict.
-ghost use Rattle.cr_capture.specs.Renaming.{KeepsLookup, KeepsNewTag, KeepsLinkage, KeepsAsk};
+ghost use Rattle.cr_capture.specs.Renaming.{KeepsLookup, KeepsAnswer, KeepsNewTag, KeepsLinkage, KeepsAsk};
 
 use cr_scope::lookup_means;
 
 /// Where neither a mention nor a declaration before it has a conflict of a renamed declaration, the mention denotes what
-/// it did (C11 6.2.1p4).
+/// it did (C11 6.2.1p4), and is a typedef name just where it was.
 ///
 /// It does nothing: its contract is the law.
 pub fn renaming_keeps_lookup()
-    ensures { KeepsLookup }
+    ensures denotes { KeepsLookup }
+    ensures answers { KeepsAnswer }
 {
     lookup_means();
 }
