@@ -35,7 +35,7 @@ pub record IsRenaming (class : Class) (old new : Name) (es : List Entry) : Type 
   pub named : (i : ℕ) (e : Entry) → slice_get es i ≡ Some e → class e ≡ true → e.decl.name ≡ old
   pub whole : (i j : ℕ) (e g : Entry) → slice_get es i ≡ Some e → slice_get es j ≡ Some g → e.decl.name ≡ g.decl.name → has_linkage e.decl.linkage ≡ true → has_linkage g.decl.linkage ≡ true → class e ≡ class g
 
--- no conflict of a mention is one of a declaration of the class
+-- no conflict of a mention names a declaration of the class
 abbrev pub IsFree : Class → Flat → (old new : Name) → Mention → Type 0
 IsFree class f old new what =
     (d : DeclNo) (token : ℕ) (e : Entry)
@@ -48,7 +48,7 @@ IsFree class f old new what =
 abbrev pub up_to : Flat → DeclNo → Flat
 up_to f c = record { scopes = f.scopes; present = f.present; entries = take (number c + 1) f.entries }
 
--- nor is one of those that the declarations had when they were made
+-- nor does one that a declaration had when it was made
 abbrev pub AreFree : Class → Flat → (old new : Name) → Type 0
 AreFree class f old new = (c : DeclNo) → IsDeclNo f c → IsFree class (up_to f c) old new (mention.Declared c)
 
