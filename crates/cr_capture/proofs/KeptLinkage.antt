@@ -23,10 +23,10 @@ use Rattle.cr_capture.proofs.KeptLookup.{keeps_lookup}
 use Rattle.cr_capture.proofs.KeptTag.{at_front, at_end}
 
 -- where linkage depends on what is seen
-pub same_linkage : (file_scope static extern function : Bool) (a b : Option Entry) → (linkage_by file_scope static extern function a ≡ linkage_seen a → linkage_seen b ≡ linkage_seen a) → linkage_by file_scope static extern function b ≡ linkage_by file_scope static extern function a
+pub same_linkage : (file_scope static extern function : Bool) (a b : Option Entry) → (static ≡ false → linkage_by file_scope static extern function a ≡ linkage_seen a → linkage_seen b ≡ linkage_seen a) → linkage_by file_scope static extern function b ≡ linkage_by file_scope static extern function a
 same_linkage fs true ex fn a b h = refl
-same_linkage fs false true fn a b h = h refl
-same_linkage fs false false true a b h = h refl
+same_linkage fs false true fn a b h = h refl refl
+same_linkage fs false false true a b h = h refl refl
 same_linkage fs false false false a b h = refl
 
 -- what is seen has internal linkage, or what is taken is external
@@ -226,6 +226,6 @@ module _ (class : Class) (old new : Name) (f : Flat) (x : Decl) (own : DeclNo) (
 pub keeps_linkage : LookupMeans → KeepsLinkage
 keeps_linkage means class old new f x own static extern function of before free taken n mine fine =
     same_linkage (is_file_scope f.present) static extern function
-    (seen class old new f x own of before free taken n fine means)
-    (seen_then class old new f x own of before free taken n fine means)
-    (λ h. same_seen class old new f x own of before free taken n fine means (mine ∙ h))
+    (entry_at f.entries (lookup f.present space.Ordinary x.name f.entries))
+    (entry_at (all_renamed class new f).entries (lookup f.present space.Ordinary (name_after class new (entry f x) x.name) (all_renamed class new f).entries))
+    (λ t h. same_seen class old new f x own of before free (taken t) n fine means (mine ∙ h))

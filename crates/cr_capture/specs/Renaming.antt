@@ -89,14 +89,14 @@ KeepsNewTag =
     → lookup f.present space.Tag (name_after class new (entry f x) x.name) (all_renamed class new f).entries ≡ None
 
 -- A declaration x, the number of which is own, takes the same linkage after the renaming. Where it takes internal linkage
--- from what it sees, it is a mention of that too.
+-- from what it sees, not by `static`, it is a mention of that too.
 abbrev pub KeepsLinkage : Type 0
 KeepsLinkage =
     (class : Class) (old new : Name) (f : Flat) (x : Decl) (own : DeclNo) (static extern function : Bool)
     → IsRenaming class old new (declared f x).entries
     → AreFree class f old new
     → IsFree class (declared f x) old new (mention.Declared own)
-    → ((d : DeclNo) (e : Entry) → IsLookup f.present space.Ordinary x.name f.entries (number d) e → e.decl.linkage ≡ linkage.Internal → x.linkage ≡ linkage.Internal → IsFree class f old new (mention.Named space.Ordinary x.name x.token (Some d)))
+    → (static ≡ false → (d : DeclNo) (e : Entry) → IsLookup f.present space.Ordinary x.name f.entries (number d) e → e.decl.linkage ≡ linkage.Internal → x.linkage ≡ linkage.Internal → IsFree class f old new (mention.Named space.Ordinary x.name x.token (Some d)))
     → number own ≡ length f.entries
     → x.linkage ≡ linkage_of f x.name static extern function
     → is_redeclared f x ≡ false
