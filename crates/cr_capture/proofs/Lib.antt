@@ -1,0 +1,12 @@
+pub mod Found
+pub mod Sought
+pub mod Outermost
+pub mod Beside
+pub mod Named
+pub mod Asked
+pub mod Declared
+pub mod Renamed
+pub mod KeptLookup
+pub mod KeptTag
+pub mod KeptLinkage
+pub mod KeptAsk
