@@ -1,5 +1,5 @@
 -- Ways to hide sets.
-use Rattle.std.proofs.Common.{◌≡◌, ℕ, zero, suc, ◌+◌, ◌-◌, ◌<◌, ◌≤◌, Bool, true, false, cond, leb, List, [], ◌∷◌, ◌++◌, length, length-append, slice_get, Option, Some, None, refl, sym, ap, ◌∙◌, subst, arith}
+use Rattle.std.proofs.Common.{◌≡◌, ℕ, suc, ◌-◌, ◌<◌, Bool, true, false, cond, leb, [], ◌∷◌, ◌++◌, length, length-append, slice_get, Option, Some, None, refl, sym, ap, ◌∙◌, subst, arith}
 use Rattle.std.specs.Prelude.{◌==◌, ◌||◌}
 use Rattle.std.specs.Map.{lookup}
 use Rattle.std.proofs.lemmas.Bool.{le-leb, lt-leb, or_right}
@@ -9,16 +9,13 @@ use Rattle.cr_macros.specs.Definition.{has_name}
 use Rattle.cr_expand.specs.declared.hide_sets.HideSet.{HideSet}
 use Rattle.cr_expand.specs.HideSets.{Sets, set_at, Grows}
 use Rattle.cr_expand.specs.HidePaths.{Steps, IsStep, AreStepsFrom, end_from, IsPath, IsFront}
+use Rattle.cr_expand.proofs.Onces.{or_none}
 use Rattle.cr_expand.proofs.Sets.{set_kept}
 
 -- whether a step that was found made the set or an earlier one
 abbrev pub is_by : HideSet → Option HideSet → Bool
 is_by set None = false
 is_by set (Some made) = leb made.0 set.0
-
-or_none : (b : Bool) → (b || false) ≡ b
-or_none true = refl
-or_none false = refl
 
 later_at : (sets : Sets) (from : ℕ) (steps : Steps) (test : Name → Bool) (made : HideSet) → AreStepsFrom sets from steps → lookup test steps ≡ Some made → from < made.0
 later_at sets from [] test made p h = absurd (none-some made h)

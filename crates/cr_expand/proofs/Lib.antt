@@ -1,5 +1,6 @@
 pub mod Sets
 pub mod Onces
+pub mod Forks
 pub mod HidePaths
 pub mod Noted
 pub mod Numbers

@@ -1,5 +1,5 @@
 -- Laws of sets that have no name twice.
-use Rattle.std.proofs.Common.{◌≡◌, ℕ, zero, suc, ◌<◌, Bool, true, false, List, [], ◌∷◌, ◌++◌, length, get_or, drop, drop-cons, append-nil, append_assoc, refl, sym, ap, ◌∙◌, subst}
+use Rattle.std.proofs.Common.{◌≡◌, ℕ, zero, suc, ◌<◌, Bool, true, false, List, [], ◌∷◌, ◌++◌, length, get_or, drop, drop-cons, refl, sym, ap, ◌∙◌, subst}
 use Rattle.std.specs.Prelude.{◌==◌, ◌||◌, not, if◌then◌else◌}
 use Rattle.std.specs.List.{All}
 use Rattle.std.proofs.lemmas.Bool.{eq-eqb, or_left, or_right, or_from, or_parts, not-true}
@@ -7,13 +7,17 @@ use Rattle.std.proofs.lemmas.List.Elements.{All-head, All-tail}
 use Rattle.std.proofs.lemmas.List.Folds.{list_any-append}
 use Rattle.cr_base.specs.declared.token.Name.{Name}
 use Rattle.cr_macros.specs.Definition.{has_name}
-use Rattle.cr_expand.specs.HideSets.{Sets, set_at, with_number, with_numbers, in_both, AreOnce, IsOver}
+use Rattle.cr_expand.specs.HideSets.{Sets, set_at, with_number, with_numbers, in_both, AreOnce}
+
+pub or_none : (b : Bool) → (b || false) ≡ b
+or_none true = refl
+or_none false = refl
 
 -- each name of the first is in the second
 abbrev AreIn : List Name → List Name → Type 0
 AreIn as1 bs = (n : Name) → has_name as1 n ≡ true → has_name bs n ≡ true
 
-has_append : (as1 bs : List Name) (n : Name) → has_name (as1 ++ bs) n ≡ (has_name as1 n || has_name bs n)
+pub has_append : (as1 bs : List Name) (n : Name) → has_name (as1 ++ bs) n ≡ (has_name as1 n || has_name bs n)
 has_append as1 bs n = list_any-append (λ p. n.0 == p.0) as1 bs
 
 has_first : (n : Name) (ns : List Name) → has_name (n ∷ ns) n ≡ true
@@ -29,55 +33,24 @@ pub with_fresh : (n : Name) (set : List Name) → has_name set n ≡ false → w
 with_fresh n set h = ap (λ b. if b then set else n ∷ set) h
 
 -- all of them are there already
-numbers_in : (set bs : List Name) → AreIn bs set → with_numbers set bs ≡ set
+pub numbers_in : (set bs : List Name) → AreIn bs set → with_numbers set bs ≡ set
 numbers_in set [] h = refl
 numbers_in set (b ∷ bs) h = ap (with_number b) (numbers_in set bs (later_in b bs set h)) ∙ with_old b set (h b (has_first b bs))
 
-numbers_before : (more set : List Name) → AreOnce (more ++ set) → with_numbers set (more ++ set) ≡ more ++ set
-numbers_before [] set h = numbers_in set set (λ n k. k)
-numbers_before (m ∷ more) set h = ap (with_number m) (numbers_before more set h.1) ∙ with_fresh m (more ++ set) h.0
-
--- the names of a set that this one was made from
-pub numbers_under : (set under : List Name) → IsOver set under → with_numbers set under ≡ set
-numbers_under set under h =
-    numbers_in set under (λ n k. ap (λ s. has_name s n) h.split ∙ has_append h.more under n ∙ or_right (has_name h.more n) (has_name under n) k)
-
--- the names of a set that was made from this one
-pub numbers_over : (set under : List Name) → IsOver set under → with_numbers under set ≡ set
-numbers_over set under h =
-    ap (with_numbers under) h.split ∙ numbers_before h.more under (subst AreOnce h.split h.once) ∙ sym h.split
-
-both_in : (as1 bs : List Name) → AreOnce as1 → AreIn as1 bs → in_both as1 bs ≡ as1
+pub both_in : (as1 bs : List Name) → AreOnce as1 → AreIn as1 bs → in_both as1 bs ≡ as1
 both_in [] bs o h = refl
 both_in (a ∷ as1) bs o h =
     ap (λ b. if b then with_number a (in_both as1 bs) else in_both as1 bs) (h a (has_first a as1))
     ∙ ap (with_number a) (both_in as1 bs o.1 (later_in a as1 bs h))
     ∙ with_fresh a as1 o.0
 
-once_after : (more set : List Name) → AreOnce (more ++ set) → AreOnce set
+pub once_after : (more set : List Name) → AreOnce (more ++ set) → AreOnce set
 once_after [] set h = h
 once_after (m ∷ more) set h = once_after more set h.1
 
-both_before : (more set : List Name) → AreOnce (more ++ set) → in_both (more ++ set) set ≡ set
-both_before [] set o = both_in set set o (λ n k. k)
-both_before (m ∷ more) set o =
-    ap (λ b. if b then with_number m (in_both (more ++ set) set) else in_both (more ++ set) set) (or_parts (has_name more m) (has_name set m) (sym (has_append more set m) ∙ o.0)).1
-    ∙ both_before more set o.1
-
--- what a set and one that it was made from share is the latter
-pub both_over : (set under : List Name) → IsOver set under → in_both set under ≡ under
-both_over set under h = ap (λ s. in_both s under) h.split ∙ both_before h.more under (subst AreOnce h.split h.once)
-
-pub both_under : (set under : List Name) → IsOver set under → in_both under set ≡ under
-both_under set under h =
-    both_in under set (once_after h.more under (subst AreOnce h.split h.once))
-    (λ n k. ap (λ s. has_name s n) h.split ∙ has_append h.more under n ∙ or_right (has_name h.more n) (has_name under n) k)
-
-pub over_empty : (set under : List Name) → under ≡ [] → AreOnce set → IsOver set under
-over_empty set under e o = record { more = set; split = sym (append-nil set) ∙ ap (λ u. set ++ u) (sym e); once = o }
-
-pub split_more : (set more at next : List Name) (n : Name) → set ≡ more ++ at → at ≡ n ∷ next → set ≡ (more ++ n ∷ []) ++ next
-split_more set more at next n e k = e ∙ ap (λ u. more ++ u) k ∙ sym (append_assoc more (n ∷ []) next)
+pub both_none : (as1 : List Name) → in_both as1 [] ≡ []
+both_none [] = refl
+both_none (a ∷ as1) = both_none as1
 
 pub set_once : (sets : Sets) (i : ℕ) → All AreOnce sets → AreOnce (set_at sets i)
 set_once [] i h = tt

@@ -107,12 +107,6 @@ node_puts old nodes new v place e g h p at within =
           ∙ ap (λ s. v.name ∷ s) (set_kept old (sets_of new) v.parent.0 g2 p),
     )
 
-pub puts_new : (old new : Sets) (name : Name) (set n : ℕ) → has_name (set_at old set) name ≡ false → Puts old (name ∷ set_at old set) new n → Puts old (with_number name (set_at old set)) new n
-puts_new old new name set n e p = subst (λ s. Puts old s new n) (sym (ap (λ b. if b then set_at old set else name ∷ set_at old set) e)) p
-
-pub puts_same : (old : Sets) (name : Name) (set : ℕ) → has_name (set_at old set) name ≡ true → set < length old → Puts old (with_number name (set_at old set)) old set
-puts_same old name set e h = (grows_same old, h, sym (ap (λ b. if b then set_at old set else name ∷ set_at old set) e))
-
 pub first_is_empty : (nodes : List Node) → set_at (sets_of nodes) 0 ≡ []
 first_is_empty nodes = set_kept ([] ∷ []) (sets_of nodes) 0 (fold_grows ([] ∷ []) nodes) (omega arith)
 

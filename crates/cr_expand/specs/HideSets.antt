@@ -63,9 +63,3 @@ AreOnce (n ∷ ns) = (has_name ns n ≡ false) × AreOnce ns
 pub record AreNodes (nodes : List Node) : Type 0 where
   pub earlier : AreEarlier nodes
   pub once : All AreOnce (sets_of nodes)
-
--- A set is another one with more names, none of them twice.
-pub record IsOver (set under : List Name) : Type 0 where
-  pub more : List Name
-  pub split : set ≡ more ++ under
-  pub once : AreOnce set

@@ -1,10 +1,10 @@
 //! Hide sets by number, so that a token carries its set without a copy.
-ghost use Rattle.std.specs.Prelude.{◌≡◌, ℕ, ◌<◌, [], ◌∷◌, ◌^◌, false, IsTrue, IfOk, OnOk, OnErr, IfSome, Some, MatchOption, if◌then◌else◌, length, slice_get};
+ghost use Rattle.std.specs.Prelude.{◌≡◌, ◌≢◌, ℕ, ◌+◌, ◌<◌, [], ◌∷◌, ◌^◌, false, IsTrue, IfOk, OnOk, OnErr, IfSome, Some, MatchOption, if◌then◌else◌, length, slice_get};
 ghost use Rattle.std.specs.List.{All};
 ghost use Rattle.indexmap.specs.IndexSet.{insert_key};
-ghost use Rattle.cr_base.specs.declared.token.Name.{Name as TheName};
 ghost use Rattle.cr_macros.specs.Definition.{has_name};
-ghost use Rattle.cr_expand.specs.HideSets.{set_at, with_number, with_numbers, in_both, Puts, AreBelow, AreOnce, IsOver};
+ghost use Rattle.cr_expand.specs.HideSets.{set_at, with_number, with_numbers, in_both, Puts, AreBelow};
+ghost use Rattle.cr_expand.specs.HideForks.{Names, IsFork};
 
 use crate::hide_path::HidePath;
 use cr_base::{Name, OutOfMemory};
@@ -21,6 +21,15 @@ pub struct HideSet(pub usize);
 pub struct Node {
     pub parent: HideSet,
     pub name: Name,
+}
+
+// Two sets on the way down to one that both were made from, and the names that were passed.
+#[derive(Drop)]
+struct Fork {
+    at: HideSet,
+    names: Vec<Name>,
+    other: HideSet,
+    others: IndexSet<Name>,
 }
 
 // The place of a node, which goes to the end where it isn't there.
@@ -71,16 +80,26 @@ impl HideSets {
         }
     }
 
-    // What makes a set that isn't the first.
+    // What made a set that isn't the first.
+    fn made(&self, set: HideSet) -> Node
+        requires later { 0 < set.0 }
+        requires known { set.0 < length self.now }
+        ensures made { set_at self.now set.0 ≡ result.name ∷ set_at self.now result.parent.0 }
+        ensures earlier { result.parent.0 < set.0 }
+    {
+        self.nodes[set.0 - 1]
+    }
+
+    // What made a set; none, where it is the first.
     fn node(&self, set: HideSet) -> Option<Node>
         requires { set.0 < length self.now }
         ensures { MatchOption result (set_at self.now set.0 ≡ []) (λ node. (set_at self.now set.0 ≡ node.name ∷ set_at self.now node.parent.0) × (node.parent.0 < set.0)) }
     {
-        let nodes = &self.nodes;
+        let _nodes = &self.nodes;
         if set.0 == 0 {
             return None;
         }
-        Some(nodes[set.0 - 1])
+        Some(self.made(set))
     }
 
     // Whether a name is in a set, if the path leads through that; `last` is the name that made it.
@@ -108,54 +127,50 @@ impl HideSets {
         false
     }
 
-    // The names of a set, the one that was put to it last first.
-    fn names(&self, alloc: Global, set: HideSet) -> Result<Vec<Name>, OutOfMemory>
-        requires { set.0 < length self.now }
-        ensures names { IfOk result (λ names. names.items ≡ set_at self.now set.0) }
-        ensures once { IfOk result (λ names. AreOnce names.items) }
+    // Takes the later of the two a step down.
+    fn descend(&self, fork: &mut Fork) -> Result<(), OutOfMemory>
+        requires apart { fork.old.at.0 ≢ fork.old.other.0 }
+        requires at { fork.old.at.0 < length self.now }
+        requires other { fork.old.other.0 < length self.now }
+        ensures kept { (set other : Names) → IsFork self.now set other fork.old.at.0 fork.old.other.0 fork.old.names.items fork.old.others.keys → OnOk result (IsFork self.now set other fork.new.at.0 fork.new.other.0 fork.new.names.items fork.new.others.keys) }
+        ensures lower { OnOk result (fork.new.at.0 + fork.new.other.0 < fork.old.at.0 + fork.old.other.0) }
     {
-        let _nodes = &self.nodes;
-        let mut names = Vec::new(alloc);
-        let mut at = set;
-        while let Some(node) = self.node(at) {
-            names.push(node.name)?;
-            at = node.parent;
+        if fork.at.0 > fork.other.0 {
+            let node = self.made(fork.at);
+            fork.names.push(node.name)?;
+            fork.at = node.parent;
+            return Ok(());
         }
-        Ok(names)
+        let node = self.made(fork.other);
+        let _ = fork.others.insert(node.name)?;
+        fork.other = node.parent;
+        Ok(())
     }
 
-    // The names of a set, to look many up.
-    fn hashed(&self, alloc: Global, set: HideSet) -> Result<IndexSet<Name>, OutOfMemory>
-        requires { set.0 < length self.now }
-        ensures { (n : TheName) → IfOk result (λ names. has_name names.keys n ≡ has_name (set_at self.now set.0) n) }
-    {
-        let mut names = IndexSet::new(alloc);
-        let mut at = set;
-        while let Some(node) = self.node(at) {
-            let _ = names.insert(node.name)?;
-            at = node.parent;
-        }
-        Ok(names)
-    }
-
-    // Whether a set is one that was made from the other, or the other itself.
-    fn is_over(&self, set: HideSet, under: HideSet) -> bool
+    // The latest set that both were made from, and what they have over it.
+    fn fork(&self, alloc: Global, set: HideSet, other: HideSet) -> Result<Fork, OutOfMemory>
         requires set { set.0 < length self.now }
-        requires under { under.0 < length self.now }
-        ensures { IsTrue result → IsOver (set_at self.now set.0) (set_at self.now under.0) }
+        requires other { other.0 < length self.now }
+        ensures { IfOk result (λ f. IsFork self.now (set_at self.now set.0) (set_at self.now other.0) f.at.0 f.at.0 f.names.items f.others.keys) }
     {
         let _nodes = &self.nodes;
-        if under.0 == 0 {
-            return true;
+        let mut fork = Fork {
+            at: set,
+            names: Vec::new(alloc),
+            other,
+            others: IndexSet::new(alloc),
+        };
+        while fork.at != fork.other {
+            self.descend(&mut fork)?;
         }
-        let mut at = set;
-        while let Some(node) = self.node(at) {
-            if at.0 <= under.0 {
-                return at == under;
-            }
-            at = node.parent;
-        }
-        false
+        Ok(fork)
+    }
+
+    fn is_empty(&self, set: HideSet) -> bool
+        requires { set.0 < length self.now }
+        ensures { IsTrue result → set_at self.now set.0 ≡ [] }
+    {
+        self.node(set).is_none()
     }
 
     // The sets from this one down to the path, which doesn't lead through them.
@@ -247,28 +262,6 @@ impl HideSets {
         Ok(more)
     }
 
-    // A set with the names of another that it hasn't.
-    fn with_missing(
-        &mut self,
-        alloc: Global,
-        set: HideSet,
-        more: HideSet,
-    ) -> Result<HideSet, OutOfMemory>
-        requires set { set.0 < length self.old }
-        requires more { more.0 < length self.old }
-        ensures below { (bound : ℕ) → AreBelow bound self.old → AreBelow bound self.new }
-        ensures puts { IfOk result (λ n. Puts self.old (with_numbers (set_at self.old set.0) (set_at self.old more.0)) self.new n.0) }
-    {
-        let held = self.hashed(alloc, set)?;
-        let names = self.names(alloc, more)?;
-        let mut all = set;
-        for i in (0..names.len()).rev() {
-            let name = names[i];
-            all = self.with_wanted(all, name, !held.contains(&name))?;
-        }
-        Ok(all)
-    }
-
     /// A set with all names of another.
     pub fn with_all(
         &mut self,
@@ -281,36 +274,16 @@ impl HideSets {
         ensures below { (bound : ℕ) → AreBelow bound self.old → AreBelow bound self.new }
         ensures puts { IfOk result (λ n. Puts self.old (with_numbers (set_at self.old set.0) (set_at self.old more.0)) self.new n.0) }
     {
-        if self.is_over(set, more) {
+        if self.is_empty(more) {
             return Ok(set);
         }
-        if self.is_over(more, set) {
-            return Ok(more);
+        let fork = self.fork(alloc, more, set)?;
+        let mut all = set;
+        for i in (0..fork.names.len()).rev() {
+            let name = fork.names[i];
+            all = self.with_wanted(all, name, !fork.others.contains(&name))?;
         }
-        let all = self.with_missing(alloc, set, more)?;
         Ok(all)
-    }
-
-    // The names of a set that another has too.
-    fn common(
-        &mut self,
-        alloc: Global,
-        set: HideSet,
-        other: HideSet,
-    ) -> Result<HideSet, OutOfMemory>
-        requires set { set.0 < length self.old }
-        requires other { other.0 < length self.old }
-        ensures below { (bound : ℕ) → AreBelow bound self.old → AreBelow bound self.new }
-        ensures puts { IfOk result (λ n. Puts self.old (in_both (set_at self.old set.0) (set_at self.old other.0)) self.new n.0) }
-    {
-        let held = self.hashed(alloc, other)?;
-        let names = self.names(alloc, set)?;
-        let mut common = self.empty();
-        for i in (0..names.len()).rev() {
-            let name = names[i];
-            common = self.with_wanted(common, name, held.contains(&name))?;
-        }
-        Ok(common)
     }
 
     /// The names that are in both sets.
@@ -325,13 +298,18 @@ impl HideSets {
         ensures below { (bound : ℕ) → AreBelow bound self.old → AreBelow bound self.new }
         ensures puts { IfOk result (λ n. Puts self.old (in_both (set_at self.old set.0) (set_at self.old other.0)) self.new n.0) }
     {
-        if self.is_over(set, other) {
-            return Ok(other);
-        }
-        if self.is_over(other, set) {
+        if self.is_empty(set) {
             return Ok(set);
         }
-        let common = self.common(alloc, set, other)?;
+        if self.is_empty(other) {
+            return Ok(other);
+        }
+        let fork = self.fork(alloc, set, other)?;
+        let mut common = fork.at;
+        for i in (0..fork.names.len()).rev() {
+            let name = fork.names[i];
+            common = self.with_wanted(common, name, fork.others.contains(&name))?;
+        }
         Ok(common)
     }
 
