@@ -36,6 +36,4 @@ pub use expander::{
 };
 pub use good_macros::defined_macros_are_known;
 pub use machine::ExpStep;
-
-#[cfg(test)]
-mod tests;
+pub use spelling::put_escaped;

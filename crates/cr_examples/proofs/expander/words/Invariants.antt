@@ -3,7 +3,7 @@ use Rattle.std.specs.List.{All}
 use Rattle.cr_base.specs.NameTable.{IsDistinct}
 use Rattle.cr_expand.specs.HideSets.{Grows}
 use Rattle.cr_expand.specs.Items.{IsTokenNamed}
-use Rattle.cr_expand.proofs.tests.words.Given as goal
+use Rattle.cr_examples.proofs.expander.words.Given as goal
 
 abbrev pub invariant-loop-word : goal.invariant-loop-word
 invariant-loop-word l = record {

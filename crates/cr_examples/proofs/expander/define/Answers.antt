@@ -1,7 +1,7 @@
 use Rattle.std.proofs.Common.{◌≤◌, sym, subst, length, arith}
 use Rattle.std.specs.List.{All}
 use Rattle.cr_expand.specs.Items.{IsTokenNamed}
-use Rattle.cr_expand.proofs.tests.define.Goals as goal
+use Rattle.cr_examples.proofs.expander.define.Goals as goal
 
 pub returns-in-Ok-clause-macros : goal.returns-in-Ok-clause-macros
 returns-in-Ok-clause-macros c =

@@ -1,4 +1,4 @@
-use Rattle.cr_expand.proofs.tests.expanded.Goals as goal
+use Rattle.cr_examples.proofs.expander.expanded.Goals as goal
 
 pub given-requires-clause-running : goal.given-requires-clause-running
 given-requires-clause-running c = c.in_ok-e.ensures.running c.in_ok-macros.macros

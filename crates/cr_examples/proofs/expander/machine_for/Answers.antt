@@ -2,7 +2,7 @@ use Rattle.std.proofs.Common.{sym, subst}
 use Rattle.std.specs.List.{All}
 use Rattle.cr_expand.specs.Items.{IsTokenNamed}
 use Rattle.cr_expand.proofs.Kept.{named_later}
-use Rattle.cr_expand.proofs.tests.machine_for.Goals as goal
+use Rattle.cr_examples.proofs.expander.machine_for.Goals as goal
 
 pub returns-clause-running : goal.returns-clause-running
 returns-clause-running c = λ macros.

@@ -8,8 +8,8 @@ ghost use Rattle.cr_expand.specs.Items.{IsTokenNamed};
 ghost use Rattle.cr_expand.specs.Machines.{AreMacros};
 ghost use Rattle.cr_expand.specs.Expanders.{IsRunning};
 
-use crate::{ExpStep, ExpandFault, Expander, MacroTable, defined_macros_are_known};
 use cr_base::{Name, NameTable, Origin, OutOfMemory, PathNo, Place, PpKind, PpTok};
+use cr_expand::{ExpStep, ExpandFault, Expander, MacroTable, defined_macros_are_known};
 use cr_macros::{one_token, text};
 use std::alloc::Global;
 use std::test::Fail;

@@ -1,7 +1,7 @@
 use Rattle.std.proofs.Common.{◌≡◌, None}
 use Rattle.cr_expand.specs.Machines.{AreMacros}
 use Rattle.cr_expand.specs.Expanders.{IsRunning}
-use Rattle.cr_expand.proofs.tests.given.Given as goal
+use Rattle.cr_examples.proofs.expander.given.Given as goal
 
 abbrev pub invariant-loop-i : goal.invariant-loop-i
 invariant-loop-i l = record {
