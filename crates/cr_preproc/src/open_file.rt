@@ -1,5 +1,5 @@
 //! A file that is read.
-ghost use Rattle.std.specs.Prelude.{◌≡◌, ◌≤◌, ◌<◌, ◌^◌, ◌++◌, ◌&&◌, [], List, length, IfOk, OnOk, OnErr};
+ghost use Rattle.std.specs.Prelude.{◌≡◌, ◌≤◌, ◌<◌, ◌^◌, ◌&&◌, [], List, length, IfOk, OnOk, OnErr};
 ghost use Rattle.cr_base.specs.NameTable.{IsDistinct};
 ghost use Rattle.cr_lex.specs.Lexing.{lexed};
 ghost use Rattle.cr_macros.specs.Tokens.{Text, tokens_of};
