@@ -1,5 +1,5 @@
 -- That the test of types tells whether they are the same.
-use Rattle.std.proofs.Common.{◌≡◌, ◌≢◌, Bool, true, false, cond, eqb, refl, ap, arith}
+use Rattle.std.proofs.Common.{◌≡◌, ◌≢◌, Bool, true, false, cond, eqb, refl, sym, ap, ◌∙◌, arith}
 use Rattle.std.proofs.lemmas.Bool.Decides.{nat_tests}
 use Rattle.cr_types.specs.declared.TypeNo.{TypeNo}
 use Rattle.cr_types.specs.Types.{CType, Void, Arith, Mixed, Ptr, Arr, Fun, Rec}
@@ -38,3 +38,14 @@ pub same_number : (k l : TypeNo) → eqb k.0 l.0 ≡ true → k ≡ l
 same_number k l e =
     let same : k.0 ≡ l.0 = grind (arith, nat_tests) in
     ap (λ z. record { 0 = z }) same
+
+-- types are the same where their numbers are
+pub same_type-numbers : (c d : CType) (k l : TypeNo) → (k ≡ l → c ≡ d) → (c ≡ d → k ≡ l) → same_type c d ≡ eqb k.0 l.0
+same_type-numbers c d k l to from = by (eqb k.0 l.0) refl (same_type c d) refl
+  where
+    by : (b : Bool) → eqb k.0 l.0 ≡ b → (e : Bool) → same_type c d ≡ e → same_type c d ≡ eqb k.0 l.0
+    by true h e g = ap (same_type c) (sym (to (same_number k l h))) ∙ same_type-itself c ∙ sym h
+    by false h false g = g ∙ sym h
+    by false h true g =
+        let same : k.0 ≡ l.0 = ap (λ n. n.0) (from (from_same_type c d g)) in
+        let f : eqb k.0 l.0 ≡ true = grind (arith, nat_tests) in cc

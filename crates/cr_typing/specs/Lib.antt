@@ -1,3 +1,4 @@
 pub mod ExpressionTypes
+pub mod Initialisers
 pub mod Kept
 pub mod Members

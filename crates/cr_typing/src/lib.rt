@@ -4,11 +4,13 @@
 
 mod expressions;
 mod fault;
+mod initialisers;
 mod members;
 mod record_members;
 mod typing;
 
 pub use expressions::Op;
 pub use fault::TypeFault;
+pub use initialisers::{Desig, InitList, ItemKind};
 pub use members::{MemberData, MemberNo};
 pub use typing::Typing;

@@ -1,8 +1,10 @@
 //! The members of all records, and what is said of types by them.
-ghost use Rattle.std.specs.Prelude.{◌≡◌, ◌≢◌, ◌+◌, ◌<◌, ◌≤◌, ◌++◌, ◌∷◌, ℕ, [], None, Some, true, IfOk, IfErr, OnOk, OnErr, false, length, vec_len, vec_capacity};
+ghost use Rattle.std.specs.Prelude.{◌≡◌, ◌≢◌, ◌+◌, ◌<◌, ◌≤◌, ◌++◌, ◌∷◌, ℕ, [], None, Some, true, IfOk, IfErr, OnOk, OnErr, false, length, slice_get, vec_len, vec_capacity};
 ghost use Rattle.cr_types.specs.Types.{IsTypeNo, IsRecNo, Keeps, type_at};
 ghost use Rattle.cr_typing.specs.ExpressionTypes.{decayed, binary_type, unary_type, is_binary, is_unary};
 ghost use Rattle.cr_typing.specs.Members.{no_members, listed_in, listed, IsMemberNo, data_at, AreOfTable, member_in, selected, selected_through, select, brought_in, redeclared, clash, RefusesNames, IsRefused, next_member, with_member, placed, Puts, Adds, ended, Ends, MayBeAdded};
+ghost use Rattle.cr_typing.specs.declared.members.MemberNo.{MemberNo as TheMemberNo};
+ghost use Rattle.cr_typing.specs.Initialisers.{complete};
 ghost use Rattle.cr_typing.specs.Kept.{AreNew, AreNamedBelow};
 
 use crate::expressions::{Op, binary_ty, unary_ty};
@@ -110,8 +112,27 @@ impl Typing {
         &self.all[m.0].member
     }
 
+    // A member with its number in its record.
+    pub(crate) fn placed(&self, m: MemberNo) -> &Placed
+        requires { IsMemberNo self.now m }
+        ensures { slice_get self.now.all m.0 ≡ Some result.now }
+    {
+        &self.all[m.0]
+    }
+
+    // The members that are declared in a record, in order; none in one that is incomplete.
+    pub(crate) fn complete(&self, r: RecNo) -> &[MemberNo]
+        ensures members { result.now ≡ complete (listed self.now r.0) }
+        ensures given { (i : ℕ) (k : TheMemberNo) → slice_get result.now i ≡ Some k → IsMemberNo self.now k }
+    {
+        match self.records.get(&r) {
+            Some(record) if record.has_ended() => record.declared(),
+            _ => &[],
+        }
+    }
+
     // The member of a record with a name.
-    fn member_of(&self, r: RecNo, name: Name) -> Result<MemberNo, TypeFault>
+    pub(crate) fn member_of(&self, r: RecNo, name: Name) -> Result<MemberNo, TypeFault>
         ensures found { result ≡ member_in (listed self.now r.0) name }
         ensures given { IfOk result (λ m. IsMemberNo self.now m) }
     {
