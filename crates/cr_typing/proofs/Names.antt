@@ -4,7 +4,9 @@ use Rattle.std.proofs.lemmas.List.{append-nil}
 use Rattle.cr_base.specs.declared.token.Name.{Name}
 use Rattle.cr_typing.specs.declared.members.Named.{Named}
 use Rattle.cr_typing.specs.declared.members.MemberNo.{MemberNo}
-use Rattle.cr_typing.specs.Members.{Listed, nothing_listed, find, redeclared, repeated, least_token, member_in, or_no_member, with_member}
+use Rattle.cr_typing.specs.declared.members.Placed.{Placed}
+use Rattle.cr_types.specs.Types.{Table, IsTypeNo, IsRecNo}
+use Rattle.cr_typing.specs.Members.{Members, AreOfTable, Listed, nothing_listed, find, redeclared, repeated, least_token, member_in, or_no_member, with_member}
 use Rattle.cr_typing.specs.Kept.{AreNew, AreNamedBelow, IsListedBelow}
 
 -- names that are new stay so where they are told in two parts
@@ -47,7 +49,7 @@ are_new_here x fs (e ∷ es) h r = by (find e.0 x.named) refl (are_new_here x (f
 pub are_new : (x : Listed) (more : List (Name × Named)) → AreNew [] more → redeclared x more ≡ None → AreNew x.named more
 are_new x more h r = subst (λ l. AreNew l more) (append-nil x.named) (are_new_here x [] more h r)
 
-pub slice_get_end : (xs : List MemberNo) (x y : MemberNo) (i : ℕ) → slice_get (xs ++ x ∷ []) i ≡ Some y → (slice_get xs i ≡ Some y) ⊎ (y ≡ x)
+pub slice_get_end : {A : Type 0} (xs : List A) (x y : A) (i : ℕ) → slice_get (xs ++ x ∷ []) i ≡ Some y → (slice_get xs i ≡ Some y) ⊎ (y ≡ x)
 slice_get_end [] x y zero at = let e : x ≡ y = cc in inr (sym e)
 slice_get_end [] x y (suc i) at = cc
 slice_get_end (z ∷ xs) x y zero at = inl at
@@ -83,3 +85,11 @@ found_below n x name h = by (if x.ended then find name x.named else None) (ended
     by : (o : Option Named) → ((k : Named) → o ≡ Some k → k.member.0 < n) → IfOk (or_no_member o) (λ m. m.0 < n)
     by None f = tt
     by (Some k) f = f k refl
+
+-- one more member whose type and record are the table's
+pub one_more_of_table : (t : Table) (m n : Members) (p : Placed) → n.all ≡ m.all ++ p ∷ [] → AreOfTable t m → IsTypeNo t p.member.ty × IsRecNo t p.member.rec → AreOfTable t n
+one_more_of_table t m n p grown held here i q at = by (slice_get_end m.all p q i (ap (λ l. slice_get l i) (sym grown) ∙ at))
+  where
+    by : (slice_get m.all i ≡ Some q) ⊎ (q ≡ p) → IsTypeNo t q.member.ty × IsRecNo t q.member.rec
+    by (inl old) = held i q old
+    by (inr same) = subst (λ z. IsTypeNo t z.member.ty × IsRecNo t z.member.rec) (sym same) here

@@ -2,3 +2,4 @@ pub mod ExpressionTypes
 pub mod Initialisers
 pub mod Kept
 pub mod Members
+pub mod Splicing

@@ -87,13 +87,14 @@ brought_in m _ = []
 abbrev pub next_member : Members → MemberNo
 next_member m = record { 0 = length m.all }
 
-abbrev pub names_by : Members → ℕ → CType → Option Name → List (Name × Named)
-names_by m token c (Some name) = (name, record { member = next_member m; token = token }) ∷ []
-names_by m token c None = brought_in m c
+-- what names select by a member: itself by its name, or the members of an anonymous record (6.7.2.1p13)
+abbrev pub names_by : Members → MemberNo → ℕ → CType → Option Name → List (Name × Named)
+names_by m k token c (Some name) = (name, record { member = k; token = token }) ∷ []
+names_by m k token c None = brought_in m c
 
--- What names select by a new member of this type: itself by its name, or the members of an anonymous record (6.7.2.1p13)
+-- the same by a new member of this type
 abbrev pub added_names : Members → MemberData → CType → List (Name × Named)
-added_names m member c = names_by m member.token c member.name
+added_names m member c = names_by m (next_member m) member.token c member.name
 
 -- those whose name is there already
 abbrev pub repeated : Listed → List (Name × Named) → List (Name × Named)

@@ -193,6 +193,7 @@ impl InitList {
     pub fn new(_alloc: Global, of: Option<TypeNo>) -> InitList
         ensures object { result.object ≡ of }
         ensures opened { (t : Table) → braces_of t result ≡ opened (option_map (type_at t) of) }
+        ensures held { (t : Table) → IfSome of (IsTypeNo t) → AreHeld t result }
     {
         InitList {
             object: of,

@@ -1,11 +1,12 @@
 //! The members of all records, and what is said of types by them.
 ghost use Rattle.std.specs.Prelude.{◌≡◌, ◌≢◌, ◌+◌, ◌<◌, ◌≤◌, ◌++◌, ◌∷◌, ℕ, [], None, Some, true, IfOk, IfErr, OnOk, OnErr, false, length, slice_get, vec_len, vec_capacity};
-ghost use Rattle.cr_types.specs.Types.{IsTypeNo, IsRecNo, Keeps, type_at};
+ghost use Rattle.cr_types.specs.Types.{Table, IsTypeNo, IsRecNo, Keeps, type_at};
 ghost use Rattle.cr_typing.specs.ExpressionTypes.{decayed, binary_type, unary_type, is_binary, is_unary};
 ghost use Rattle.cr_typing.specs.Members.{no_members, listed_in, listed, IsMemberNo, data_at, AreOfTable, member_in, selected, selected_through, select, brought_in, redeclared, clash, RefusesNames, IsRefused, next_member, with_member, placed, Puts, Adds, ended, Ends, MayBeAdded};
 ghost use Rattle.cr_typing.specs.declared.members.MemberNo.{MemberNo as TheMemberNo};
 ghost use Rattle.cr_typing.specs.Initialisers.{complete};
-ghost use Rattle.cr_typing.specs.Kept.{AreNew, AreNamedBelow};
+ghost use Rattle.cr_typing.specs.Kept.{AreNew, AreNamedBelow, AreListed};
+ghost use Rattle.cr_typing.specs.Splicing.{AreSpliced, IsAnonymous};
 
 use crate::expressions::{Op, binary_ty, unary_ty};
 use crate::fault::TypeFault;
@@ -87,7 +88,9 @@ fn end_in(records: &mut IndexMap<RecNo, RecordMembers>, r: RecNo)
 impl Typing {
     /// No members.
     pub fn new(alloc: Global) -> Typing
-        ensures { result ≡ no_members }
+        ensures none { result ≡ no_members }
+        ensures held { (t : Table) → AreOfTable t result }
+        ensures spliced { (t : Table) → AreSpliced t result }
     {
         Typing {
             alloc,
@@ -99,7 +102,9 @@ impl Typing {
     /// The list of a record's members ends, so that it is complete (C11 6.7.2.1p8). A record without members is never
     /// told from one that is incomplete.
     pub fn finish(&mut self, r: RecNo)
-        ensures { Ends self.old r self.new }
+        ensures ends { Ends self.old r self.new }
+        ensures held { (t : Table) → AreOfTable t self.old → AreOfTable t self.new }
+        ensures spliced { (t : Table) → AreSpliced t self.old → AreSpliced t self.new }
     {
         end_in(&mut self.records, r);
     }
@@ -223,6 +228,7 @@ impl Typing {
     fn put(&mut self, member: MemberData, more: &[(Name, Named)]) -> Result<MemberNo, TypeFault>
         requires apart { AreNew [] more.now }
         requires members { AreNamedBelow (length self.old.all + 1) more.now }
+        ensures listed { AreListed self.old }
         ensures number { IfOk result (λ m. m ≡ next_member self.old) }
         ensures ok { OnOk result (Puts self.old member more.now self.new) }
         ensures allowed { OnOk result (redeclared (listed self.old member.rec.0) more.now ≡ None) }
@@ -244,6 +250,9 @@ impl Typing {
     /// Adds a member to a record whose list hasn't ended, at the token that declares it. One without a name is an
     /// anonymous structure or union, whose own list has ended: its members are found by their names in the record too
     /// (C11 6.7.2.1p13). Where a name is there already the member isn't added.
+    ///
+    /// As long as nothing is added to a record that is an anonymous member already, the names of a record are those of its
+    /// members in order (`spliced`).
     pub fn add_member(
         &mut self,
         types: &Types,
@@ -262,6 +271,7 @@ impl Typing {
         ensures ok { OnOk result (Adds self.old (record { rec = r; name = name; ty = ty; token = token }) (type_at types.now ty) self.new) }
         ensures allowed { OnOk result (clash self.old (record { rec = r; name = name; ty = ty; token = token }) (type_at types.now ty) ≡ None) }
         ensures refused { IfErr result (λ fault. IsRefused self.old (record { rec = r; name = name; ty = ty; token = token }) (type_at types.now ty) fault) }
+        ensures spliced { OnOk result ((IsAnonymous types.now self.new r.0 → ⊥) → AreSpliced types.now self.old → AreSpliced types.now self.new) }
         ensures held { AreOfTable types.now self.new }
         ensures err { OnErr result (self.new ≡ self.old) }
     {

@@ -29,3 +29,15 @@ invariant_of-self-2 c =
     (each_listed (IsListedBelow (n + 1)) c.self.inside.records.entries c.put_in.new.records.entries r here
     (λ q. one_more_below n (listed_in c.self.inside.records.entries q) (c.self.invariant q))
     c.in_ok-put_in.ensures.others)
+
+pub returns-in-Some-clause-listed : goal.returns-in-Some-clause-listed
+returns-in-Some-clause-listed c = rw (← c.self.view_is) c.self.invariant
+
+pub returns-in_err-reserve-clause-listed : goal.returns-in_err-reserve-clause-listed
+returns-in_err-reserve-clause-listed c = rw (← c.self.view_is) c.self.invariant
+
+pub returns-in_err-put_in-clause-listed : goal.returns-in_err-put_in-clause-listed
+returns-in_err-put_in-clause-listed c = rw (← c.self.view_is) c.self.invariant
+
+pub returns-clause-listed : goal.returns-clause-listed
+returns-clause-listed c = rw (← c.self.view_is) c.self.invariant
