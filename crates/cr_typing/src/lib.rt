@@ -7,6 +7,8 @@ mod fault;
 mod initialisers;
 mod members;
 mod record_members;
+#[cfg(test)]
+mod tests;
 mod typing;
 
 pub use expressions::Op;
