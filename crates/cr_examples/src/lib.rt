@@ -2,6 +2,4 @@
 #![tactic(auto)]
 
 #[cfg(test)]
-mod expander;
-#[cfg(test)]
 mod tests;

@@ -1,6 +1,4 @@
 pub mod HideSets
-pub mod HidePaths
-pub mod HideForks
 pub mod Held
 pub mod Items
 pub mod Parts

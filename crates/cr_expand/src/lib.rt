@@ -9,7 +9,6 @@ mod good_macros;
 mod groups;
 mod head;
 mod held;
-mod hide_path;
 mod hide_sets;
 mod hiding;
 mod items;
@@ -36,4 +35,6 @@ pub use expander::{
 };
 pub use good_macros::defined_macros_are_known;
 pub use machine::ExpStep;
-pub use spelling::put_escaped;
+
+#[cfg(test)]
+mod tests;
