@@ -2,4 +2,6 @@
 #![tactic(auto)]
 
 #[cfg(test)]
+mod expander;
+#[cfg(test)]
 mod tests;

@@ -8,6 +8,9 @@ use itoa::Buffer;
 use std::alloc::Global;
 use std::test::Fail;
 
+// No unit of these tests takes more steps.
+const MOST_STEPS: u32 = 4_194_304;
+
 type Files = &'static [(&'static [u8], &'static [u8])];
 
 fn named_path(alloc: Global, text: &[u8]) -> Result<PathText, OutOfMemory> {
@@ -141,7 +144,7 @@ fn put_end(alloc: Global, out: &mut Vec<u8>, end: &PreTurn) -> Result<(), OutOfM
 fn run_of(snapshot: &Snapshot, preproc: &mut Preproc) -> Result<PreTurn, OutOfMemory>
     requires { IsPreproc snapshot.now preproc.old }
 {
-    for _ in 0..4096 {
+    for _ in 0..MOST_STEPS {
         let turn = preproc.step(snapshot)?;
         if !matches!(turn, PreTurn::More) {
             return Ok(turn);
@@ -223,6 +226,16 @@ fn chained(alloc: Global, levels: u32) -> Result<Vec<u8>, OutOfMemory> {
     Ok(out)
 }
 
+// How a unit of so many semicolons ends, and how many tokens it has.
+fn semicolons(alloc: Global, count: usize) -> Result<(Vec<u8>, usize), OutOfMemory> {
+    let mut snapshot = with_words(alloc, b"")?;
+    let mut text = Vec::new(alloc);
+    text.resize(count, b';')?;
+    know(&mut snapshot, named_path(alloc, b"a.c")?, Some(text))?;
+    let (preproc, end) = ended(alloc, &snapshot, b"")?;
+    Ok((end, preproc.tokens().len()))
+}
+
 #[test]
 fn a_unit_is_preprocessed_as_defined(rt: HostRuntime) -> Result<(), Fail> {
     let alloc = rt.alloc();
@@ -262,6 +275,18 @@ fn two_hundred_levels_of_includes_are_the_most(rt: HostRuntime) -> Result<(), Fa
     assert_eq!(rt; last.as_slice(), b"x@0 ".as_slice());
     let over = chained(alloc, 201)?;
     assert!(rt; over.starts_with(b"LimitIncludes@"));
+    Ok(())
+}
+
+#[test]
+fn a_unit_has_at_most_1048576_tokens(rt: HostRuntime) -> Result<(), Fail> {
+    let alloc = rt.alloc();
+    let (end, count) = semicolons(alloc, 1_048_576)?;
+    assert_eq!(rt; end.as_slice(), b"".as_slice());
+    assert_eq!(rt; count, 1_048_576);
+    let (end, count) = semicolons(alloc, 1_048_577)?;
+    assert!(rt; end.starts_with(b"LimitTokens@"));
+    assert_eq!(rt; count, 1_048_576);
     Ok(())
 }
 

@@ -1,4 +1,7 @@
 pub mod Sets
+pub mod Onces
+pub mod Forks
+pub mod HidePaths
 pub mod Noted
 pub mod Numbers
 pub mod Bodies

@@ -5,11 +5,13 @@ use Rattle.std.proofs.lemmas.List.{get_or_append_left, get_or_push}
 use Rattle.std.proofs.lemmas.Option.{get_or_from_slice_get}
 use Rattle.cr_base.specs.declared.token.Name.{Name}
 use Rattle.cr_expand.specs.declared.hide_sets.Node.{Node}
-use Rattle.cr_expand.specs.HideSets.{Sets, set_at, grown, sets_of, AreEarlierFrom, AreEarlier, Grows, Puts, with_number, with_numbers, in_both, AreBelow}
+use Rattle.cr_expand.specs.HideSets.{Sets, set_at, grown, sets_of, AreEarlierFrom, AreEarlier, Grows, Puts, with_number, with_numbers, in_both, AreBelow, AreOnce, AreNodes}
 use Rattle.std.proofs.Common.{drop, drop-cons}
 use Rattle.std.specs.List.{All}
 use Rattle.std.proofs.lemmas.List.Elements.{All-push, All-cons, All-nil, All-head, All-tail, All-get_or}
 use Rattle.cr_macros.specs.Definition.{has_name}
+use Rattle.cr_expand.proofs.Onces.{set_once, missing_at, missing_new, common_new, with_fresh}
+use Rattle.std.specs.Prelude.{not}
 
 pub earlier_push : (n : ℕ) (xs : List Node) (y : Node) → AreEarlierFrom n xs → y.parent.0 < n + length xs → AreEarlierFrom n (xs ++ y ∷ [])
 earlier_push n [] y h k = (omega arith, tt)
@@ -78,6 +80,18 @@ pub earlier_keys : (b : Bool) (nodes new : List Node) (v : Node) → new ≡ (if
 earlier_keys true nodes new v e h k = subst AreEarlier (sym e) h
 earlier_keys false nodes new v e h k = subst AreEarlier (sym e) (earlier_push 1 nodes v h (omega arith))
 
+once_keys : (b : Bool) (nodes new : List Node) (v : Node) → new ≡ (if b then nodes else nodes ++ v ∷ []) → has_name (set_at (sets_of nodes) v.parent.0) v.name ≡ false → All AreOnce (sets_of nodes) → All AreOnce (sets_of new)
+once_keys true nodes new v e h k = subst (λ l. All AreOnce (sets_of l)) (sym e) k
+once_keys false nodes new v e h k =
+    let put : All AreOnce (grown (sets_of nodes) v) = All-push AreOnce (sets_of nodes) (v.name ∷ set_at (sets_of nodes) v.parent.0) k (h, set_once (sets_of nodes) v.parent.0 k) in
+    subst (λ l. All AreOnce (sets_of l)) (sym e) (subst (All AreOnce) (sym (fold_append ([] ∷ []) nodes (v ∷ []))) put)
+
+pub nodes_keys : (b : Bool) (old : Sets) (nodes new : List Node) (v : Node) → sets_of nodes ≡ old → new ≡ (if b then nodes else nodes ++ v ∷ []) → AreNodes nodes → v.parent.0 < suc (length nodes) → has_name (set_at old v.parent.0) v.name ≡ false → AreNodes new
+nodes_keys b old nodes new v s e h k f = record {
+  earlier = earlier_keys b nodes new v e h.earlier k;
+  once = once_keys b nodes new v e (ap (λ l. has_name (set_at l v.parent.0) v.name) s ∙ f) h.once;
+}
+
 -- a node that is found or put at a place makes the set behind it
 pub node_puts : (old : Sets) (nodes new : List Node) (v : Node) (place : ℕ) → sets_of nodes ≡ old → Grows (sets_of nodes) (sets_of new) → AreEarlier new → v.parent.0 < length old
     → slice_get new place ≡ Some v → place < length new → Puts old (v.name ∷ set_at old v.parent.0) (sets_of new) (place + 1)
@@ -92,12 +106,6 @@ node_puts old nodes new v place e g h p at within =
           ∙ ap (λ n. n.name ∷ set_at (sets_of new) n.parent.0) node
           ∙ ap (λ s. v.name ∷ s) (set_kept old (sets_of new) v.parent.0 g2 p),
     )
-
-pub puts_new : (old new : Sets) (name : Name) (set n : ℕ) → has_name (set_at old set) name ≡ false → Puts old (name ∷ set_at old set) new n → Puts old (with_number name (set_at old set)) new n
-puts_new old new name set n e p = subst (λ s. Puts old s new n) (sym (ap (λ b. if b then set_at old set else name ∷ set_at old set) e)) p
-
-pub puts_same : (old : Sets) (name : Name) (set : ℕ) → has_name (set_at old set) name ≡ true → set < length old → Puts old (with_number name (set_at old set)) old set
-puts_same old name set e h = (grows_same old, h, sym (ap (λ b. if b then set_at old set else name ∷ set_at old set) e))
 
 pub first_is_empty : (nodes : List Node) → set_at (sets_of nodes) 0 ≡ []
 first_is_empty nodes = set_kept ([] ∷ []) (sets_of nodes) 0 (fold_grows ([] ∷ []) nodes) (omega arith)
@@ -128,16 +136,26 @@ pub name_below : (bound : ℕ) (sets : Sets) (set : ℕ) (names : List Name) (i 
 name_below bound sets set names i n h e l k =
     subst (λ x. x.0 < bound) (sym k) (All-get_or (λ x. x.0 < bound) names i n l (subst (All (λ x. x.0 < bound)) (sym e) (set_below bound sets set h.at)))
 
-pub numbers_at : (base names : List Name) (j i : ℕ) (n : Name) → i ≡ suc j → j < length names → n ≡ get_or names j n → with_numbers base (drop j names) ≡ with_number n (with_numbers base (drop i names))
-numbers_at base names j i n e h k =
-    ap (with_numbers base) (drop-cons names j n h)
-    ∙ ap (λ x. with_number x (with_numbers base (drop (suc j) names))) (sym k)
-    ∙ ap (λ x. with_number n (with_numbers base (drop x names))) (sym e)
+pub numbers_at : (base names all : List Name) (held : Bool) (j i : ℕ) (n : Name) → AreOnce names → i ≡ suc j → j < length names → n ≡ get_or names j n → held ≡ has_name base n → all ≡ with_numbers base (drop i names)
+    → (if not held then n ∷ all else all) ≡ with_numbers base (drop j names)
+numbers_at base names all held j i n o e h k s c =
+    ap (λ x. if not x then n ∷ all else all) s
+    ∙ ap (λ x. if not (has_name base n) then n ∷ x else x) c
+    ∙ missing_at base names j i n o e h k
+    ∙ ap (λ x. with_number n (with_numbers base (drop x names))) e
+    ∙ ap (λ x. with_number x (with_numbers base (drop (suc j) names))) k
+    ∙ sym (ap (with_numbers base) (drop-cons names j n h))
 
-pub common_at : (names bs bs1 : List Name) (j i : ℕ) (n : Name) (common : List Name) → i ≡ suc j → j < length names → n ≡ get_or names j n → bs1 ≡ bs → common ≡ in_both (drop i names) bs
-    → (if has_name bs1 n then with_number n common else common) ≡ in_both (drop j names) bs
-common_at names bs bs1 j i n common e h k s c =
-    ap (λ x. if has_name x n then with_number n common else common) s
-    ∙ ap (λ x. if has_name bs n then with_number n x else x) (c ∙ ap (λ x. in_both (drop x names) bs) e)
+-- the name isn't there yet
+pub numbers_new : (base names all : List Name) (held : Bool) (j i : ℕ) (n : Name) → AreOnce names → i ≡ suc j → j < length names → n ≡ get_or names j n → held ≡ has_name base n → all ≡ with_numbers base (drop i names) → not held ≡ true → has_name all n ≡ false
+numbers_new base names all held j i n o e h k s c w = ap (λ x. has_name x n) c ∙ missing_new base names j i n o e h k (ap not (sym s) ∙ w)
+
+pub common_at : (names bs common : List Name) (held : Bool) (j i : ℕ) (n : Name) → AreOnce names → i ≡ suc j → j < length names → n ≡ get_or names j n → held ≡ has_name bs n → common ≡ in_both (drop i names) bs
+    → (if held then n ∷ common else common) ≡ in_both (drop j names) bs
+common_at names bs common held j i n o e h k s c =
+    ap (λ x. if x then n ∷ common else common) s
+    ∙ ap (λ x. if has_name bs n then n ∷ x else x) c
+    ∙ ap (λ x. if has_name bs n then x else in_both (drop i names) bs) (sym (with_fresh n (in_both (drop i names) bs) (common_new names bs j i n o e h k)))
+    ∙ ap (λ x. if has_name bs n then with_number n (in_both (drop x names) bs) else in_both (drop x names) bs) e
     ∙ ap (λ x. if has_name bs x then with_number x (in_both (drop (suc j) names) bs) else in_both (drop (suc j) names) bs) k
     ∙ sym (ap (λ x. in_both x bs) (drop-cons names j n h))

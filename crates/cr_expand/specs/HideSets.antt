@@ -1,5 +1,5 @@
 -- Hide sets by number: each set but the first, which is empty, is an earlier one with one more name.
-use Rattle.std.specs.Prelude.{◌≡◌, ℕ, suc, ◌<◌, if◌then◌else◌, List, [], ◌∷◌, ◌++◌, length, fold, slice_index_or}
+use Rattle.std.specs.Prelude.{◌≡◌, ℕ, suc, ◌<◌, false, if◌then◌else◌, List, [], ◌∷◌, ◌++◌, length, fold, slice_index_or}
 use Rattle.std.specs.List.{All}
 use Rattle.cr_base.specs.declared.token.Name.{Name}
 use Rattle.cr_macros.specs.Definition.{has_name}
@@ -53,3 +53,13 @@ Puts old set new n = Grows old new × (n < length new) × (set_at new n ≡ set)
 -- All names of the sets are below a bound.
 pub record AreBelow (bound : ℕ) (sets : Sets) : Type 0 where
   pub at : All (All (λ n. n.0 < bound)) sets
+
+-- No name is in the list twice.
+abbrev pub AreOnce : List Name → Type 0
+AreOnce [] = Unit {0}
+AreOnce (n ∷ ns) = (has_name ns n ≡ false) × AreOnce ns
+
+-- Each node is made from an earlier set, and no set has a name twice.
+pub record AreNodes (nodes : List Node) : Type 0 where
+  pub earlier : AreEarlier nodes
+  pub once : All AreOnce (sets_of nodes)

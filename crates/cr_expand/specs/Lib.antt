@@ -1,4 +1,6 @@
 pub mod HideSets
+pub mod HidePaths
+pub mod HideForks
 pub mod Held
 pub mod Items
 pub mod Parts

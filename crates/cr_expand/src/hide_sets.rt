@@ -1,9 +1,12 @@
 //! Hide sets by number, so that a token carries its set without a copy.
-ghost use Rattle.std.specs.Prelude.{◌≡◌, ℕ, ◌<◌, [], ◌∷◌, ◌^◌, IfOk, OnOk, OnErr, Some, MatchOption, if◌then◌else◌, length, slice_get};
+ghost use Rattle.std.specs.Prelude.{◌≡◌, ◌≢◌, ℕ, ◌+◌, ◌<◌, [], ◌∷◌, ◌^◌, false, IsTrue, IfOk, OnOk, OnErr, IfSome, Some, MatchOption, if◌then◌else◌, length, slice_get};
+ghost use Rattle.std.specs.List.{All};
 ghost use Rattle.indexmap.specs.IndexSet.{insert_key};
 ghost use Rattle.cr_macros.specs.Definition.{has_name};
-ghost use Rattle.cr_expand.specs.HideSets.{set_at, with_number, with_numbers, in_both, Puts, AreBelow, grown, AreEarlier, sets_of};
+ghost use Rattle.cr_expand.specs.HideSets.{set_at, with_number, with_numbers, in_both, Puts, AreBelow};
+ghost use Rattle.cr_expand.specs.HideForks.{Names, IsFork};
 
+use crate::hide_path::HidePath;
 use cr_base::{Name, OutOfMemory};
 use indexmap::IndexSet;
 use std::alloc::Global;
@@ -18,6 +21,15 @@ pub struct HideSet(pub usize);
 pub struct Node {
     pub parent: HideSet,
     pub name: Name,
+}
+
+// Two sets on the way down to one that both were made from, and the names that were passed.
+#[derive(Drop)]
+struct Fork {
+    at: HideSet,
+    names: Vec<Name>,
+    other: HideSet,
+    others: IndexSet<Name>,
 }
 
 // The place of a node, which goes to the end where it isn't there.
@@ -35,19 +47,25 @@ fn put(nodes: &mut IndexSet<Node>, node: Node) -> Result<usize, OutOfMemory>
 }
 
 /// Hide sets. Contracts see them as the list of the sets, each a list of names; set 0 is empty.
+///
+/// To ask for a name walks the set down to the path, which is led to each set that gets one name
+/// more. So where macros stand in one another, each costs the same, however deep it stands.
 #[derive(Drop)]
 pub struct HideSets {
+    alloc: Global,
     nodes: IndexSet<Node>,
+    path: HidePath,
 }
 
 impl Model for HideSets {
-    ghost use Rattle.cr_expand.specs.HideSets.{Sets, sets_of, AreEarlier};
+    ghost use Rattle.cr_expand.specs.HideSets.{Sets, sets_of, AreNodes};
+    ghost use Rattle.cr_expand.specs.HidePaths.{IsPath};
 
     ghost Value = { Sets };
 
     ghost view = { λ t. sets_of t.nodes.keys };
 
-    ghost invariant = { λ t. AreEarlier t.nodes.keys };
+    ghost invariant = { λ t. AreNodes t.nodes.keys × IsPath (sets_of t.nodes.keys) t.path.steps.entries };
 }
 
 impl HideSets {
@@ -56,20 +74,39 @@ impl HideSets {
         ensures { result ≡ [] ∷ [] }
     {
         HideSets {
+            alloc,
             nodes: IndexSet::new(alloc),
+            path: HidePath::new(alloc),
         }
     }
 
-    // What makes a set that isn't the first.
+    // What made a set that isn't the first.
+    fn made(&self, set: HideSet) -> Node
+        requires later { 0 < set.0 }
+        requires known { set.0 < length self.now }
+        ensures made { set_at self.now set.0 ≡ result.name ∷ set_at self.now result.parent.0 }
+        ensures earlier { result.parent.0 < set.0 }
+    {
+        self.nodes[set.0 - 1]
+    }
+
+    // What made a set; none, where it is the first.
     fn node(&self, set: HideSet) -> Option<Node>
         requires { set.0 < length self.now }
         ensures { MatchOption result (set_at self.now set.0 ≡ []) (λ node. (set_at self.now set.0 ≡ node.name ∷ set_at self.now node.parent.0) × (node.parent.0 < set.0)) }
     {
-        let nodes = &self.nodes;
+        let _nodes = &self.nodes;
         if set.0 == 0 {
             return None;
         }
-        Some(nodes[set.0 - 1])
+        Some(self.made(set))
+    }
+
+    // Whether a name is in a set, if the path leads through that; `last` is the name that made it.
+    fn on_path(&self, set: HideSet, last: Name, name: Name) -> Option<bool>
+        ensures { IfSome result (λ found. found ≡ has_name (set_at self.now set.0) name) }
+    {
+        self.path.has(set, last, name)
     }
 
     /// Whether a name is in a set.
@@ -82,23 +119,113 @@ impl HideSets {
             if node.name == name {
                 return true;
             }
+            if let Some(found) = self.on_path(at, node.name, name) {
+                return found;
+            }
             at = node.parent;
         }
         false
     }
 
-    // The names of a set.
-    fn names(&self, alloc: Global, set: HideSet) -> Result<Vec<Name>, OutOfMemory>
-        requires { set.0 < length self.now }
-        ensures { IfOk result (λ names. names.items ≡ set_at self.now set.0) }
+    // Takes the later of the two a step down.
+    fn descend(&self, fork: &mut Fork) -> Result<(), OutOfMemory>
+        requires apart { fork.old.at.0 ≢ fork.old.other.0 }
+        requires at { fork.old.at.0 < length self.now }
+        requires other { fork.old.other.0 < length self.now }
+        ensures kept { (set other : Names) → IsFork self.now set other fork.old.at.0 fork.old.other.0 fork.old.names.items fork.old.others.keys → OnOk result (IsFork self.now set other fork.new.at.0 fork.new.other.0 fork.new.names.items fork.new.others.keys) }
+        ensures lower { OnOk result (fork.new.at.0 + fork.new.other.0 < fork.old.at.0 + fork.old.other.0) }
     {
-        let mut names = Vec::new(alloc);
+        if fork.at.0 > fork.other.0 {
+            let node = self.made(fork.at);
+            fork.names.push(node.name)?;
+            fork.at = node.parent;
+            return Ok(());
+        }
+        let node = self.made(fork.other);
+        let _ = fork.others.insert(node.name)?;
+        fork.other = node.parent;
+        Ok(())
+    }
+
+    // The latest set that both were made from, and what they have over it.
+    fn fork(&self, alloc: Global, set: HideSet, other: HideSet) -> Result<Fork, OutOfMemory>
+        requires set { set.0 < length self.now }
+        requires other { other.0 < length self.now }
+        ensures { IfOk result (λ f. IsFork self.now (set_at self.now set.0) (set_at self.now other.0) f.at.0 f.at.0 f.names.items f.others.keys) }
+    {
+        let _nodes = &self.nodes;
+        let mut fork = Fork {
+            at: set,
+            names: Vec::new(alloc),
+            other,
+            others: IndexSet::new(alloc),
+        };
+        while fork.at != fork.other {
+            self.descend(&mut fork)?;
+        }
+        Ok(fork)
+    }
+
+    fn is_empty(&self, set: HideSet) -> bool
+        requires { set.0 < length self.now }
+        ensures { IsTrue result → set_at self.now set.0 ≡ [] }
+    {
+        self.node(set).is_none()
+    }
+
+    // The sets from this one down to the path, which doesn't lead through them.
+    fn off_path(&self, set: HideSet) -> Result<Vec<HideSet>, OutOfMemory>
+        requires { set.0 < length self.now }
+        ensures { IfOk result (λ sets. All (λ s. s.0 < length self.now) sets.items) }
+    {
+        let mut sets = Vec::new(self.alloc);
         let mut at = set;
         while let Some(node) = self.node(at) {
-            names.push(node.name)?;
+            if self.on_path(at, node.name, node.name).is_some() {
+                return Ok(sets);
+            }
+            sets.push(at)?;
             at = node.parent;
         }
-        Ok(names)
+        Ok(sets)
+    }
+
+    // Leads the path on to a set from the one that it was made from.
+    fn follow(&mut self, set: HideSet) -> Result<(), OutOfMemory>
+        requires { set.0 < length self.old }
+        ensures { self.new ≡ self.old }
+    {
+        match self.node(set) {
+            None => Ok(()),
+            Some(node) => {
+                self.path.go(node.parent, node.name, set)?;
+                Ok(())
+            }
+        }
+    }
+
+    // Leads the path to a set.
+    fn lead(&mut self, set: HideSet) -> Result<(), OutOfMemory>
+        requires { set.0 < length self.old }
+        ensures { self.new ≡ self.old }
+    {
+        let sets = self.off_path(set)?;
+        for i in (0..sets.len()).rev() {
+            self.follow(sets[i])?;
+        }
+        Ok(())
+    }
+
+    // A set with a name that it hasn't.
+    fn with_new(&mut self, set: HideSet, name: Name) -> Result<HideSet, OutOfMemory>
+        requires set { set.0 < length self.old }
+        requires new { has_name (set_at self.old set.0) name ≡ false }
+        ensures puts { IfOk result (λ n. Puts self.old (name ∷ set_at self.old set.0) self.new n.0) }
+        ensures kept { OnErr result (self.new ≡ self.old) }
+        ensures below { (bound : ℕ) → name.0 < bound → AreBelow bound self.old → AreBelow bound self.new }
+    {
+        let place = put(&mut self.nodes, Node { parent: set, name })?;
+        Ok(HideSet(place + 1))
     }
 
     /// A set with one more name.
@@ -108,11 +235,31 @@ impl HideSets {
         ensures kept { OnErr result (self.new ≡ self.old) }
         ensures below { (bound : ℕ) → name.0 < bound → AreBelow bound self.old → AreBelow bound self.new }
     {
+        self.lead(set)?;
         if self.has(set, name) {
             return Ok(set);
         }
-        let place = put(&mut self.nodes, Node { parent: set, name })?;
-        Ok(HideSet(place + 1))
+        let more = self.with_new(set, name)?;
+        Ok(more)
+    }
+
+    // A set with a name that it hasn't, where the name is wanted.
+    fn with_wanted(
+        &mut self,
+        set: HideSet,
+        name: Name,
+        wanted: bool,
+    ) -> Result<HideSet, OutOfMemory>
+        requires set { set.0 < length self.old }
+        requires new { IsTrue wanted → has_name (set_at self.old set.0) name ≡ false }
+        ensures below { (bound : ℕ) → name.0 < bound → AreBelow bound self.old → AreBelow bound self.new }
+        ensures puts { IfOk result (λ n. Puts self.old (if wanted then name ∷ set_at self.old set.0 else set_at self.old set.0) self.new n.0) }
+    {
+        if !wanted {
+            return Ok(set);
+        }
+        let more = self.with_new(set, name)?;
+        Ok(more)
     }
 
     /// A set with all names of another.
@@ -127,31 +274,16 @@ impl HideSets {
         ensures below { (bound : ℕ) → AreBelow bound self.old → AreBelow bound self.new }
         ensures puts { IfOk result (λ n. Puts self.old (with_numbers (set_at self.old set.0) (set_at self.old more.0)) self.new n.0) }
     {
-        let names = self.names(alloc, more)?;
-        let mut all = set;
-        for i in (0..names.len()).rev() {
-            all = self.with_one_more(all, names[i])?;
-        }
-        Ok(all)
-    }
-
-    // A set with a name that another has.
-    fn with_common(
-        &mut self,
-        set: HideSet,
-        other: HideSet,
-        name: Name,
-    ) -> Result<HideSet, OutOfMemory>
-        requires set { set.0 < length self.old }
-        requires other { other.0 < length self.old }
-        ensures below { (bound : ℕ) → name.0 < bound → AreBelow bound self.old → AreBelow bound self.new }
-        ensures puts { IfOk result (λ n. Puts self.old (if has_name (set_at self.old other.0) name then with_number name (set_at self.old set.0) else set_at self.old set.0) self.new n.0) }
-    {
-        if !self.has(other, name) {
+        if self.is_empty(more) {
             return Ok(set);
         }
-        let common = self.with_one_more(set, name)?;
-        Ok(common)
+        let fork = self.fork(alloc, more, set)?;
+        let mut all = set;
+        for i in (0..fork.names.len()).rev() {
+            let name = fork.names[i];
+            all = self.with_wanted(all, name, !fork.others.contains(&name))?;
+        }
+        Ok(all)
     }
 
     /// The names that are in both sets.
@@ -166,10 +298,17 @@ impl HideSets {
         ensures below { (bound : ℕ) → AreBelow bound self.old → AreBelow bound self.new }
         ensures puts { IfOk result (λ n. Puts self.old (in_both (set_at self.old set.0) (set_at self.old other.0)) self.new n.0) }
     {
-        let names = self.names(alloc, set)?;
-        let mut common = self.empty();
-        for i in (0..names.len()).rev() {
-            common = self.with_common(common, other, names[i])?;
+        if self.is_empty(set) {
+            return Ok(set);
+        }
+        if self.is_empty(other) {
+            return Ok(other);
+        }
+        let fork = self.fork(alloc, set, other)?;
+        let mut common = fork.at;
+        for i in (0..fork.names.len()).rev() {
+            let name = fork.names[i];
+            common = self.with_wanted(common, name, fork.others.contains(&name))?;
         }
         Ok(common)
     }

@@ -9,6 +9,7 @@ mod good_macros;
 mod groups;
 mod head;
 mod held;
+mod hide_path;
 mod hide_sets;
 mod hiding;
 mod items;
@@ -35,6 +36,4 @@ pub use expander::{
 };
 pub use good_macros::defined_macros_are_known;
 pub use machine::ExpStep;
-
-#[cfg(test)]
-mod tests;
+pub use spelling::put_escaped;

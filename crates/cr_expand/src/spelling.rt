@@ -14,8 +14,8 @@ fn is_quoted(kind: PpKind) -> bool
     matches!(kind, PpKind::Char | PpKind::Str)
 }
 
-// Puts the bytes behind, with a backslash before each quote and backslash.
-fn put_escaped(out: &mut Vec<u8>, bytes: &[u8]) -> Result<(), OutOfMemory>
+/// Puts the bytes behind, with a backslash before each quote and backslash, as a string literal spells them.
+pub fn put_escaped(out: &mut Vec<u8>, bytes: &[u8]) -> Result<(), OutOfMemory>
     ensures { OnOk result (out.new.items ≡ out.old.items ++ spec.escaped bytes.now) }
 {
     for i in 0..bytes.len() {

@@ -1,5 +1,5 @@
 -- What is left behind a directive that ends the run.
-use Rattle.std.proofs.Common.{◌≡◌, ◌-◌, ◌≤◌, List, [], length, refl, ap, sym, ◌∙◌, subst, arith, Vec, Global}
+use Rattle.std.proofs.Common.{◌≡◌, ◌-◌, ◌≤◌, List, [], length, refl, ap, sym, ◌∙◌, subst, arith}
 use Rattle.std.specs.Prelude.{Result, Ok, Err}
 use Rattle.cr_base.specs.declared.unit.Unit.{Unit}
 use Rattle.cr_base.specs.declared.token.PpTok.{PpTok}
@@ -31,8 +31,9 @@ use Rattle.cr_phase4.specs.Preprocessing.{does_file}
 use Rattle.cr_phase4.specs.Search.{World}
 use Rattle.cr_preproc.specs.OpenFiles.{Reading, reading_of, reads_file, IsOpen}
 use Rattle.cr_preproc.specs.Progressing.{state_of, IsProgress}
-use Rattle.cr_preproc.specs.Seen.{AreNamed}
-use Rattle.cr_preproc.specs.Expanding.{IsExpanding, still_in, end_by}
+use Rattle.cr_preproc.specs.declared.listing.Listing.{Listing}
+use Rattle.cr_preproc.specs.Listings.{IsListing}
+use Rattle.cr_preproc.specs.Expanding.{still_in, end_by}
 use Rattle.cr_preproc.specs.Leading.{Leads, IsDirected, includes_given}
 use Rattle.cr_preproc.specs.Turning.{file_goes, directed_left, carried, doing_left, IsEnded, IsBehind, IsDoing, IsWorking, LooksAt}
 use Rattle.cr_preproc.proofs.Frames.{then_assoc}
@@ -89,16 +90,16 @@ module _ (w : World) (u : Unit) (files : List KnownFile) (p q : Progress) (f g :
       (leads_go 0 p q x (opens w (does_file w u f.levels) site paths (state_of q)) (on k) h)
   looks_leads x paths site doing.Reads look h k = absurd look
   looks_leads x paths site (doing.Expands e next) look h k = absurd look
-  looks_leads x paths site (doing.Decides e given d hash) look h k = absurd look
-  looks_leads x paths site (doing.Includes e given hash) look h k = absurd look
+  looks_leads x paths site (doing.Decides l d) look h k = absurd look
+  looks_leads x paths site (doing.Includes l) look h k = absurd look
   looks_leads x paths site (doing.Fails fault) look h k = absurd look
 
   pub looks_does : (paths : List Text) (site : Place) (d : Doing) → LooksAt paths site d → IsDoing q g d
   looks_does paths site (doing.Looks found at) look = ended.line
   looks_does paths site doing.Reads look = absurd look
   looks_does paths site (doing.Expands e next) look = absurd look
-  looks_does paths site (doing.Decides e given d hash) look = absurd look
-  looks_does paths site (doing.Includes e given hash) look = absurd look
+  looks_does paths site (doing.Decides l d) look = absurd look
+  looks_does paths site (doing.Includes l) look = absurd look
   looks_does paths site (doing.Fails fault) look = absurd look
 
 -- a line that is no directive leaves the file as it is
@@ -154,15 +155,16 @@ module _ (w : World) (u : Unit) (files : List KnownFile) (p q : Progress) (f : O
       let paths = candidates u f.path header.angled header.name.items in
       (λ g ended k. looks_leads w u files p q f g same ended (m (state_of p)) paths site next look (subst is_directed e h) k, good, λ g ended. looks_does w u files p q f g same ended paths site next look)
 
-  pub follow_expands : (d : Directed) (e : Expansion) (given : Vec PpTok Global) → d ≡ directed.Expands → IsExpanding q e → e.expander.machine.file ≡ f.literal → text_of q.names f.literal ≡ in_quotes (escaped f.path)
-      → still_in q e ≡ expand (table_of q.names q.macros (text_of q.names f.literal)) ts (LIMIT - q.used) → given.items ≡ [] → is_directed d → is_behind (Ok (doing.Includes e given hash))
-  follow_expands d e given is x file literal still none h =
+  pub follow_expands : (d : Directed) (l : Listing) → d ≡ directed.Expands → IsListing q l → l.expansion.value.expander.machine.file ≡ f.literal → text_of q.names f.literal ≡ in_quotes (escaped f.path)
+      → still_in q l.expansion.value ≡ expand (table_of q.names q.macros (text_of q.names f.literal)) ts (LIMIT - q.used) → l.given.items ≡ [] → l.hash ≡ hash → is_directed d → is_behind (Ok (doing.Includes l))
+  follow_expands d l is x file literal still none at h =
       let before = λ (k : Task Nothing). directed_left w u p (reading_of p.names files f) k m in (
         λ g ended k.
-            subst (λ l. Leads 0 p q (before k) (include_left w u q (reading_of q.names files g) k e l hash)) (sym none)
-            (list_leads w u files p q f g same ended (m (state_of p)) hash ts e literal still (subst is_directed is h) k),
+            subst (λ (at : Place). Leads 0 p q (before k) (include_left w u q (reading_of q.names files g) k l.expansion.value l.given.items at)) (sym at)
+            (subst (λ (us : List PpTok). Leads 0 p q (before k) (include_left w u q (reading_of q.names files g) k l.expansion.value us hash)) (sym none)
+            (list_leads w u files p q f g same ended (m (state_of p)) hash ts l.expansion.value literal still (subst is_directed is h) k)),
         good,
-        λ g ended. (x, file ∙ sym (ap (λ (y : OpenFile). y.literal) ended.rest), subst (AreNamed q.names) (sym none) tt),
+        λ g ended. (x, file ∙ sym (ap (λ (y : OpenFile). y.literal) ended.rest)),
       )
 
 -- What the present line is, and what is left behind it.

@@ -26,7 +26,6 @@ use Rattle.cr_preproc.specs.declared.turning.Turned.TheVariants as turned
 use Rattle.cr_preproc.specs.OpenFileSteps.{is_empty, has_line}
 use Rattle.cr_phase4.specs.Conditionals.{is_word_live}
 use Rattle.cr_preproc.specs.Leading.{IsLed}
-use Rattle.cr_preproc.specs.RunTurns.{IsGiving}
 use Rattle.cr_phase4.specs.Tasks.{marks}
 use Rattle.cr_preproc.specs.Turning.{LooksAt}
 use Rattle.cr_preproc.proofs.LineTurns.{word_does, led_reads}
@@ -46,8 +45,8 @@ then_most (then.Fails f) = omega arith
 pub rank_most : (f : OpenFile) (d : Doing) → rank f d ≤ 6
 rank_most f doing.Reads = line_most f.line.items
 rank_most f (doing.Expands e next) = then_most next
-rank_most f (doing.Decides e given d hash) = omega arith
-rank_most f (doing.Includes e given hash) = omega arith
+rank_most f (doing.Decides l d) = omega arith
+rank_most f (doing.Includes l) = omega arith
 rank_most f (doing.Looks paths site) = omega arith
 rank_most f (doing.Fails fault) = omega arith
 
@@ -91,8 +90,8 @@ pub below_looks : (paths : List Text) (site : Place) (d : Doing) (n : ℕ) → 3
 below_looks paths site (doing.Looks found at) n h is = λ g none. h
 below_looks paths site doing.Reads n h is = absurd is
 below_looks paths site (doing.Expands e next) n h is = absurd is
-below_looks paths site (doing.Decides e given d hash) n h is = absurd is
-below_looks paths site (doing.Includes e given hash) n h is = absurd is
+below_looks paths site (doing.Decides l d) n h is = absurd is
+below_looks paths site (doing.Includes l) n h is = absurd is
 below_looks paths site (doing.Fails fault) n h is = absurd is
 
 -- a conditional directive reads nothing

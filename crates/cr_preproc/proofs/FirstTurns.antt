@@ -1,5 +1,5 @@
 -- What the opening of a file that no include names is for the whole unit.
-use Rattle.std.proofs.Common.{◌≡◌, ◌+◌, ◌≤◌, List, [], length, reverse, refl, sym, ap, ◌∙◌, subst, arith, append-nil, Option, Some, None, inl}
+use Rattle.std.proofs.Common.{◌≡◌, ◌+◌, ◌≤◌, List, [], length, reverse, refl, sym, ap, ◌∙◌, subst, arith, append-nil, Option, Some, None}
 use Rattle.std.specs.Prelude.{Vec}
 use Rattle.std.specs.declared.alloc.Global.{Global}
 use Rattle.cr_base.specs.declared.unit.Unit.{Unit}

@@ -1,6 +1,7 @@
 -- The list of an include, token by token, and what is left behind it.
 use Rattle.std.proofs.Common.{◌≡◌, ℕ, ◌+◌, ◌-◌, ◌≤◌, cond, List, [], ◌∷◌, ◌++◌, map, length, refl, ap, sym, ◌∙◌, subst, append-nil, append_assoc, Option, Some, None}
-use Rattle.std.specs.Prelude.{codes}
+use Rattle.std.specs.Prelude.{codes, Vec}
+use Rattle.std.specs.declared.alloc.Global.{Global}
 use Rattle.std.specs.Option.{option_map}
 use Rattle.std.proofs.lemmas.List.{map-append}
 use Rattle.cr_base.specs.declared.unit.Unit.{Unit}
@@ -22,7 +23,7 @@ use Rattle.cr_expand.specs.Running.{leads}
 use Rattle.cr_expand.specs.declared.machine.TheConstants.{LIMIT}
 use Rattle.cr_preproc.specs.declared.expansion.Expansion.{Expansion}
 use Rattle.cr_preproc.specs.declared.expansion.Fault.{Fault}
-use Rattle.cr_preproc.specs.declared.expansion.Use.TheVariants as use1
+use Rattle.cr_preproc.specs.declared.listing.Listing.{Listing}
 use Rattle.cr_preproc.specs.declared.open_file.OpenFile.{OpenFile}
 use Rattle.cr_preproc.specs.declared.progress.Progress.{Progress}
 use Rattle.cr_preproc.specs.declared.turning.Doing.{Doing}
@@ -32,13 +33,14 @@ use Rattle.cr_phase4.specs.Preprocessing.{does_file}
 use Rattle.cr_phase4.specs.Search.{World}
 use Rattle.cr_preproc.specs.OpenFiles.{Reading, reading_of, IsOpen}
 use Rattle.cr_preproc.specs.Progressing.{state_of, IsProgress, IsTold}
-use Rattle.cr_preproc.specs.Seen.{IsNamed, AreNamed}
-use Rattle.cr_preproc.specs.Expanding.{IsUsed, IsOneUse, IsNoted, StopsAt, still_in, ended_by, end_by}
+use Rattle.cr_preproc.specs.Seen.{AreNamed}
+use Rattle.cr_preproc.specs.Expanding.{IsOneUse, IsNoted, StopsAt, still_in, ended_by, end_by}
+use Rattle.cr_preproc.specs.Listings.{IsListEnd}
 use Rattle.cr_preproc.specs.Leading.{Leads, list_left, includes_given}
 use Rattle.cr_preproc.specs.Turning.{file_goes, directed_left, IsWorking, IsDoing}
 use Rattle.cr_preproc.proofs.Frames.{behind_behind, behind_then}
 use Rattle.cr_preproc.proofs.Leadings.{behind_none}
-use Rattle.cr_preproc.proofs.OpenLater.{tokens_later, reading_later, open_later}
+use Rattle.cr_preproc.proofs.OpenLater.{reading_later, open_later}
 use Rattle.cr_preproc.proofs.ToldByUses.{told_uses}
 use Rattle.cr_preproc.proofs.Turns.{with_used, used_told, told_steps, noted_state, stop_ends}
 
@@ -158,7 +160,7 @@ module _ (law : KeepsMacros) (w : World) (u : Unit) (files : List KnownFile) (p 
   abbrev next : Task Nothing → Nothing → Task Nothing
   next k d = file_goes w u r r.open_ifs [] >>> λ n. k
 
-  include_leads : (out : List Token) (us : List PpTok) → still_in p e ≡ leads out told (still_in q f) → map plain (tokens_of p.names ts ++ out) ≡ map plain (tokens_of q.names us) → (k : Task Nothing)
+  pub include_leads : (out : List Token) (us : List PpTok) → still_in p e ≡ leads out told (still_in q f) → map plain (tokens_of p.names ts ++ out) ≡ map plain (tokens_of q.names us) → (k : Task Nothing)
       → Leads 1 p q (include_left w u p r k e ts hash) (include_left w u q (reading_of q.names files file) k f us hash)
   include_leads out us h same k = record {
     events = map Told told;
@@ -177,22 +179,6 @@ module _ (law : KeepsMacros) (w : World) (u : Unit) (files : List KnownFile) (p 
         ∙ ap (λ x. go_on x (next k)) (list_same hash (state_of p) (tokens_of q.names us) (tokens_of p.names ts ++ out) (still_in q f) for1
         (λ vs. given_same w u (does_file w u file.levels) file.path hash (tokens_of q.names us ++ vs) ((tokens_of p.names ts ++ out) ++ vs)
         (map-append plain (tokens_of q.names us) vs ∙ ap (λ l. l ++ map plain vs) (sym same) ∙ sym (map-append plain (tokens_of p.names ts ++ out) vs))))
-
-  -- it gave no token
-  pub include_goes : still_in p e ≡ leads [] told (still_in q f) → (k : Task Nothing)
-      → Leads 1 p q (include_left w u p r k e ts hash) (include_left w u q (reading_of q.names files file) k f ts hash)
-  include_goes h k = include_leads [] ts h (ap (map plain) (append-nil (tokens_of p.names ts) ∙ sym (tokens_later p.names q.names ts noted.told.names named))) k
-
-  -- it gave this token
-  pub include_gives : (t : PpTok) (hide : List Text) → still_in p e ≡ leads (token_of q.names hide t ∷ []) told (still_in q f) → (k : Task Nothing)
-      → Leads 1 p q (include_left w u p r k e ts hash) (include_left w u q (reading_of q.names files file) k f (ts ++ t ∷ []) hash)
-  include_gives t hide h k =
-      include_leads (token_of q.names hide t ∷ []) (ts ++ t ∷ []) h
-      (map-append plain (tokens_of p.names ts) (token_of q.names hide t ∷ [])
-      ∙ ap (λ l. map plain l ++ token_of q.names [] t ∷ []) (sym (tokens_later p.names q.names ts noted.told.names named))
-      ∙ sym (map-append plain (tokens_of q.names ts) (token_of q.names [] t ∷ []))
-      ∙ ap (map plain) (sym (tokens_behind q.names ts t)))
-      k
 
 -- a file that is worked on still is, where names were added
 pub noted_working : (files : List KnownFile) (p q : Progress) (file : OpenFile) (told : List Telling) (d : Doing) → IsOpen p.names files file → length file.line.items + p.reading ≤ 33554432 → IsNoted p q told → IsProgress q → IsDoing q file d
@@ -235,18 +221,16 @@ include_fails w u files p q file e hash ts end h told1 k = record {
 }
 
 -- the list is at its end, where a use of a rule changes nothing
-pub include_ends : (w : World) (u : Unit) (files : List KnownFile) (p q : Progress) (file : OpenFile) (e f : Expansion) (hash : Place) (ts : List PpTok) (n : ℕ) → n ≡ f.expander.machine.used → IsUsed p q e f use1.Ends → (k : Task Nothing)
-    → Leads 0 p (with_used q n) (include_left w u p (reading_of p.names files file) k e ts hash)
-    (directed_left w u (with_used q n) (reading_of q.names files file) k (includes_given w u (does_file w u file.levels) file.path hash (tokens_of q.names ts)))
-include_ends w u files p q file e f hash ts n n_is used k =
+pub include_ends : (w : World) (u : Unit) (files : List KnownFile) (p q : Progress) (file : OpenFile) (l m : Listing) (n : ℕ) → n ≡ m.expansion.value.expander.machine.used → IsListEnd p q l m → (k : Task Nothing)
+    → Leads 0 p (with_used q n) (include_left w u p (reading_of p.names files file) k l.expansion.value l.given.items l.hash)
+    (directed_left w u (with_used q n) (reading_of q.names files file) k (includes_given w u (does_file w u file.levels) file.path m.hash (tokens_of q.names m.given.items)))
+include_ends w u files p q file l m n n_is end k =
     subst
-    (λ y. Leads 0 p (with_used y n) (include_left w u p (reading_of p.names files file) k e ts hash)
-    (directed_left w u (with_used y n) (reading_of y.names files file) k (includes_given w u (does_file w u file.levels) file.path hash (tokens_of y.names ts))))
-    (sym used.0)
-    (include_ended w u files p file e hash ts n (used.3 ∙ ap (λ m. Gave [] (LIMIT - m) []) (sym n_is)) k)
-
-pub named_push : (names : List Text) (ts us : List PpTok) (t : PpTok) → AreNamed names ts → IsNamed names t → us ≡ ts ++ t ∷ [] → AreNamed names us
-named_push names ts us t h k e = subst (AreNamed names) (sym e) (push ts h) where
-  push : (xs : List PpTok) → AreNamed names xs → AreNamed names (xs ++ t ∷ [])
-  push [] h = (k, tt)
-  push (x ∷ xs) h = (h.0, push xs h.1)
+    (λ (h : Place). Leads 0 p (with_used q n) left (directed_left w u (with_used q n) (reading_of q.names files file) k (includes_given w u (does_file w u file.levels) file.path h (tokens_of q.names m.given.items)))) (sym end.hash)
+    (subst
+    (λ (g : Vec PpTok Global). Leads 0 p (with_used q n) left (directed_left w u (with_used q n) (reading_of q.names files file) k (includes_given w u (does_file w u file.levels) file.path l.hash (tokens_of q.names g.items)))) (sym end.given)
+    (subst
+    (λ (y : Progress). Leads 0 p (with_used y n) left (directed_left w u (with_used y n) (reading_of y.names files file) k (includes_given w u (does_file w u file.levels) file.path l.hash (tokens_of y.names l.given.items)))) (sym end.same)
+    (include_ended w u files p file l.expansion.value l.hash l.given.items n (end.still ∙ ap (λ x. Gave [] (LIMIT - x) []) (sym n_is)) k))) where
+      left : Reply Nothing
+      left = include_left w u p (reading_of p.names files file) k l.expansion.value l.given.items l.hash

@@ -33,7 +33,7 @@ use Rattle.cr_phase4.specs.Runs.{run_in}
 use Rattle.cr_phase4.specs.Search.{World}
 use Rattle.cr_preproc.specs.OpenFiles.{Reading, reading_of, IsOpen}
 use Rattle.cr_preproc.specs.Progressing.{state_of, IsProgress, IsTold, Did}
-use Rattle.cr_preproc.specs.Expanding.{IsUsed, IsOneUse, IsNoted, IsExpanding, StopsAt, table_for, ahead_in, end_by}
+use Rattle.cr_preproc.specs.Expanding.{Boxed, IsUsed, IsOneUse, IsNoted, IsExpanding, StopsAt, table_for, ahead_in, end_by}
 use Rattle.cr_preproc.specs.Leading.{Leads, given_on, run_left}
 use Rattle.cr_preproc.specs.Turning.{carried, then_left, doing_left, ended_behind, IsWorking, IsTurned}
 use Rattle.cr_preproc.proofs.Frames.{behind_then}
@@ -63,8 +63,9 @@ used_good p n good limit = record {
   room = good.room;
 }
 
-pub used_expanding : (p : Progress) (n : ℕ) (e : Expansion) → IsExpanding p e → IsExpanding (with_used p n) e
-used_expanding p n e x = record { running = x.running; finished = x.finished; fault = x.fault; from = x.from; to = x.to; literal = x.literal; limit = x.limit }
+-- the work that is used, as it is read behind a box
+pub used_is : (n : ℕ) (x e : Expansion) → n ≡ x.expander.machine.used → x ≡ e → n ≡ e.expander.machine.used
+used_is n x e h same = h ∙ ap (λ y. y.expander.machine.used) same
 
 nothing_more : (n : ℕ) → 0 + n ≡ n
 nothing_more n = omega arith
@@ -139,13 +140,13 @@ module _ (law : KeepsMacros) (p q : Progress) (told : List Telling) (good : IsPr
   noted_told n = record { tokens = noted.told.tokens; trace = noted.told.trace; renaming = noted.told.renaming; names = noted.told.names }
 
 -- A use of a rule in a run.
-module _ (law : KeepsMacros) (w : World) (u : Unit) (files : List KnownFile) (p q : Progress) (file : OpenFile) (told : List Telling) (e f : Expansion) (next : Then) (good : IsProgress p) (o : IsOpen p.names files file)
-    (x : IsExpanding p e) (noted : IsNoted p q told) (one : IsOneUse told) (same : f.expander.machine.file ≡ e.expander.machine.file) where
+module _ (law : KeepsMacros) (w : World) (u : Unit) (files : List KnownFile) (p q : Progress) (file : OpenFile) (told : List Telling) (e f : Boxed) (next : Then) (good : IsProgress p) (o : IsOpen p.names files file)
+    (x : IsExpanding p e.value) (noted : IsNoted p q told) (one : IsOneUse told) (same : f.value.expander.machine.file ≡ e.value.expander.machine.file) where
   abbrev before : Task Nothing → Reply Nothing
   before k = doing_left w u p (reading_of p.names files file) k (doing.Expands e next)
 
-  table : table_for q f ≡ table_for p e
-  table = noted_table law p q told good noted e f x same
+  table : table_for q f.value ≡ table_for p e.value
+  table = noted_table law p q told good noted e.value f.value x same
 
   state : state_of q ≡ state_of p
   state = noted_state law p q told good noted
@@ -154,39 +155,39 @@ module _ (law : KeepsMacros) (w : World) (u : Unit) (files : List KnownFile) (p 
   read = reading_later p.names q.names files file noted.told.names o
 
   -- it gave no token
-  pub run_goes : (n : ℕ) → ahead_in p e ≡ after told (ahead_in q f) → (k : Task Nothing)
+  pub run_goes : (n : ℕ) → ahead_in p e.value ≡ after told (ahead_in q f.value) → (k : Task Nothing)
       → Leads 1 p (with_used q n) (before k) (doing_left w u (with_used q n) (reading_of q.names files file) k (doing.Expands f next))
   run_goes n h k = record {
     events = map Told told;
     size = told_steps told ∙ one.0;
     goes =
-        ap (λ a. then_left w u (reading_of p.names files file) k next (run_left (table_for p e) (state_of p) a)) h
-        ∙ ap (then_left w u (reading_of p.names files file) k next) (run_after (table_for p e) (state_of p) told (ahead_in q f) one.1)
-        ∙ then_behind w u (reading_of p.names files file) k next (map Told told) (run_left (table_for p e) (state_of p) (ahead_in q f))
+        ap (λ a. then_left w u (reading_of p.names files file) k next (run_left (table_for p e.value) (state_of p) a)) h
+        ∙ ap (then_left w u (reading_of p.names files file) k next) (run_after (table_for p e.value) (state_of p) told (ahead_in q f.value) one.1)
+        ∙ then_behind w u (reading_of p.names files file) k next (map Told told) (run_left (table_for p e.value) (state_of p) (ahead_in q f.value))
         ∙ ap (behind (map Told told)) (sym now);
     told = noted_told law p q told good noted n;
   } where
-    now : then_left w u (reading_of q.names files file) k next (run_left (table_for q f) (state_of (with_used q n)) (ahead_in q f)) ≡ then_left w u (reading_of p.names files file) k next (run_left (table_for p e) (state_of p) (ahead_in q f))
+    now : then_left w u (reading_of q.names files file) k next (run_left (table_for q f.value) (state_of (with_used q n)) (ahead_in q f.value)) ≡ then_left w u (reading_of p.names files file) k next (run_left (table_for p e.value) (state_of p) (ahead_in q f.value))
     now =
-        ap (λ r. then_left w u r k next (run_left (table_for q f) (state_of (with_used q n)) (ahead_in q f))) read
-        ∙ ap (λ t. then_left w u (reading_of p.names files file) k next (run_left t (state_of (with_used q n)) (ahead_in q f))) table
-        ∙ ap (then_left w u (reading_of p.names files file) k next) (run_work (table_for p e) (state_of q) (LIMIT - n) (ahead_in q f))
-        ∙ ap (λ s. then_left w u (reading_of p.names files file) k next (run_left (table_for p e) s (ahead_in q f))) state
+        ap (λ r. then_left w u r k next (run_left (table_for q f.value) (state_of (with_used q n)) (ahead_in q f.value))) read
+        ∙ ap (λ t. then_left w u (reading_of p.names files file) k next (run_left t (state_of (with_used q n)) (ahead_in q f.value))) table
+        ∙ ap (then_left w u (reading_of p.names files file) k next) (run_work (table_for p e.value) (state_of q) (LIMIT - n) (ahead_in q f.value))
+        ∙ ap (λ s. then_left w u (reading_of p.names files file) k next (run_left (table_for p e.value) s (ahead_in q f.value))) state
 
   -- it gave this token
-  module _ (n : ℕ) (t : Token) (rest : List Token) (h : ahead_in p e ≡ Gave (Some (record { tokens = t ∷ []; rest = rest })) (LIMIT - n) told) where
-    pub run_gave : (k : Task Nothing) → Leads 1 p (with_used q n) (before k) (then_left w u (reading_of p.names files file) k next ((gives (t ∷ []) >>> λ d. run_in (table_for p e) rest) (state_of (with_used q n))))
+  module _ (n : ℕ) (t : Token) (rest : List Token) (h : ahead_in p e.value ≡ Gave (Some (record { tokens = t ∷ []; rest = rest })) (LIMIT - n) told) where
+    pub run_gave : (k : Task Nothing) → Leads 1 p (with_used q n) (before k) (then_left w u (reading_of p.names files file) k next ((gives (t ∷ []) >>> λ d. run_in (table_for p e.value) rest) (state_of (with_used q n))))
     run_gave k = record {
       events = map Told told;
       size = told_steps told ∙ one.0;
       goes =
-          ap (λ a. then_left w u (reading_of p.names files file) k next (run_left (table_for p e) (state_of p) a)) h
+          ap (λ a. then_left w u (reading_of p.names files file) k next (run_left (table_for p e.value) (state_of p) a)) h
           ∙ then_behind w u (reading_of p.names files file) k next (map Told told) (on (record (state_of p) { work = LIMIT - n }))
           ∙ ap (λ s. behind (map Told told) (then_left w u (reading_of p.names files file) k next (on (record s { work = LIMIT - n })))) (sym state);
       told = noted_told law p q told good noted n;
     } where
       on : State → Reply Nothing
-      on = gives (t ∷ []) >>> λ d. run_in (table_for p e) rest
+      on = gives (t ∷ []) >>> λ d. run_in (table_for p e.value) rest
 
     -- there is no room for it
     pub run_full : (k : Task Nothing) → length q.tokens.items ≡ MOST_TOKENS → Leads {A = Nothing} 1 p (with_used q n) (before k) (Ends (Over Tokens) [])
@@ -194,7 +195,7 @@ module _ (law : KeepsMacros) (w : World) (u : Unit) (files : List KnownFile) (p 
         let left : nat_lt (MOST_TOKENS - length q.tokens.items) 1 ≡ true = grind (arith, nat_tests) in
         let s = state_of (with_used q n) in
         leads_to 1 p (with_used q n) _ _ _
-        (ap (λ b. then_left w u (reading_of p.names files file) k next (go_on (cond b (Ends (Over Tokens) []) (Goes Done (record s { room = (MOST_TOKENS - length q.tokens.items) - 1 }) (final t))) (λ d. run_in (table_for p e) rest))) left
+        (ap (λ b. then_left w u (reading_of p.names files file) k next (go_on (cond b (Ends (Over Tokens) []) (Goes Done (record s { room = (MOST_TOKENS - length q.tokens.items) - 1 }) (final t))) (λ d. run_in (table_for p e.value) rest))) left
         ∙ then_ends w u (reading_of p.names files file) k next (Over Tokens) []
         ∙ ap (λ end. Ends end []) (ended_over next Tokens))
         (run_gave k) where
@@ -202,37 +203,37 @@ module _ (law : KeepsMacros) (w : World) (u : Unit) (files : List KnownFile) (p 
           final t = map {A = Token} (λ x. Final x) (t ∷ [])
 
     -- it is given, and the run goes on
-    module _ (v : Progress) (after1 : ahead_in q f ≡ next_token (table_for q f) rest (LIMIT - n)) where
+    module _ (v : Progress) (after1 : ahead_in q f.value ≡ next_token (table_for q f.value) rest (LIMIT - n)) where
       abbrev z : Progress
       z = record q { used = n; tokens = v.tokens; trace = v.trace }
 
-      now : (k : Task Nothing) → then_left w u (reading_of p.names files file) k next (run_in (table_for p e) rest (state_of z)) ≡ doing_left w u z (reading_of z.names files file) k (doing.Expands f next)
+      now : (k : Task Nothing) → then_left w u (reading_of p.names files file) k next (run_in (table_for p e.value) rest (state_of z)) ≡ doing_left w u z (reading_of z.names files file) k (doing.Expands f next)
       now k =
-          ap (λ r. then_left w u r k next (run_in (table_for p e) rest (state_of z))) (sym read)
+          ap (λ r. then_left w u r k next (run_in (table_for p e.value) rest (state_of z))) (sym read)
           ∙ ap (λ b. then_left w u (reading_of q.names files file) k next (run_in b rest (state_of z))) (sym table)
-          ∙ ap (then_left w u (reading_of q.names files file) k next) (sym (run_is (table_for q f) rest (state_of z)))
-          ∙ ap (λ a. then_left w u (reading_of q.names files file) k next (run_left (table_for q f) (state_of z) a)) (sym after1)
+          ∙ ap (then_left w u (reading_of q.names files file) k next) (sym (run_is (table_for q f.value) rest (state_of z)))
+          ∙ ap (λ a. then_left w u (reading_of q.names files file) k next (run_left (table_for q f.value) (state_of z) a)) (sym after1)
 
       pub run_given : v ≡ z → Did 0 (with_used q n) v (gives (t ∷ [])) Done → (k : Task Nothing) → Leads 1 p v (before k) (doing_left w u v (reading_of v.names files file) k (doing.Expands f next))
       run_given same_v did k =
           subst (λ y. Leads 1 p y (before k) (doing_left w u y (reading_of y.names files file) k (doing.Expands f next))) (sym same_v)
           (leads_to 1 p z _ _ _ (now k)
           (leads_then 1 0 p (with_used q n) z _ _ _ good (run_gave k)
-          (leads_on 0 (with_used q n) z w u (reading_of p.names files file) k next _ _ (did_leads 0 (with_used q n) z (gives (t ∷ [])) (λ d. run_in (table_for p e) rest) Done (subst (λ y. Did 0 (with_used q n) y (gives (t ∷ [])) Done) same_v did)))))
+          (leads_on 0 (with_used q n) z w u (reading_of p.names files file) k next _ _ (did_leads 0 (with_used q n) z (gives (t ∷ [])) (λ d. run_in (table_for p e.value) rest) Done (subst (λ y. Did 0 (with_used q n) y (gives (t ∷ [])) Done) same_v did)))))
 
 -- the run is at its end
-pub run_ended : (w : World) (u : Unit) (files : List KnownFile) (p : Progress) (file : OpenFile) (e : Expansion) (next : Then) (n : ℕ) → ahead_in p e ≡ Gave None (LIMIT - n) [] → (k : Task Nothing)
+pub run_ended : (w : World) (u : Unit) (files : List KnownFile) (p : Progress) (file : OpenFile) (e : Boxed) (next : Then) (n : ℕ) → ahead_in p e.value ≡ Gave None (LIMIT - n) [] → (k : Task Nothing)
     → Leads 0 p (with_used p n) (doing_left w u p (reading_of p.names files file) k (doing.Expands e next)) (then_left w u (reading_of p.names files file) k next (Goes Done (state_of (with_used p n)) []))
 run_ended w u files p file e next n h k = record {
   events = [];
   size = refl;
-  goes = ap (λ a. then_left w u (reading_of p.names files file) k next (run_left (table_for p e) (state_of p) a)) h ∙ sym (behind_none (then_left w u (reading_of p.names files file) k next (Goes Done (state_of (with_used p n)) [])));
+  goes = ap (λ a. then_left w u (reading_of p.names files file) k next (run_left (table_for p e.value) (state_of p) a)) h ∙ sym (behind_none (then_left w u (reading_of p.names files file) k next (Goes Done (state_of (with_used p n)) [])));
   told = used_told p n;
 }
 
 -- a file is still worked on where its run is, and final tokens were given
-pub run_working : (files : List KnownFile) (p q v : Progress) (file : OpenFile) (told : List Telling) (f : Expansion) (next : Then) (n : ℕ) → IsOpen p.names files file → length file.line.items + p.reading ≤ 33554432 → IsNoted p q told
-    → IsExpanding q f → f.expander.machine.file ≡ file.literal → IsProgress v → v ≡ record q { used = n; tokens = v.tokens; trace = v.trace } → IsWorking files v file (doing.Expands f next)
+pub run_working : (files : List KnownFile) (p q v : Progress) (file : OpenFile) (told : List Telling) (f : Boxed) (next : Then) (n : ℕ) → IsOpen p.names files file → length file.line.items + p.reading ≤ 33554432 → IsNoted p q told
+    → IsExpanding q f.value → f.value.expander.machine.file ≡ file.literal → IsProgress v → v ≡ record q { used = n; tokens = v.tokens; trace = v.trace } → IsWorking files v file (doing.Expands f next)
 run_working files p q v file told f next n o line noted x same good e =
     subst (λ y. IsWorking files y file (doing.Expands f next)) (sym e) (record {
       progress = subst IsProgress e good;
@@ -242,12 +243,12 @@ run_working files p q v file told f next n o line noted x same good e =
     })
 
 -- A token of the run was given, or there was no room for it.
-module _ (law : KeepsMacros) (w : World) (u : Unit) (files : List KnownFile) (p q v : Progress) (file : OpenFile) (e f : Expansion) (next : Then) (n : ℕ) (t : PpTok) (good : IsProgress p) (o : IsOpen p.names files file)
-    (line : length file.line.items + p.reading ≤ 33554432) (x : IsExpanding p e) (literal : e.expander.machine.file ≡ file.literal) (good_after : IsProgress q) (n_is : n ≡ f.expander.machine.used) (used : IsUsed p q e f (use1.Gives t)) where
-  after_is : ahead_in q f ≡ next_token (table_for q f) used.2 (LIMIT - n)
-  after_is = used.5 ∙ ap (λ m. next_token (table_for q f) used.2 (LIMIT - m)) (sym n_is)
+module _ (law : KeepsMacros) (w : World) (u : Unit) (files : List KnownFile) (p q v : Progress) (file : OpenFile) (e f : Boxed) (next : Then) (n : ℕ) (t : PpTok) (good : IsProgress p) (o : IsOpen p.names files file)
+    (line : length file.line.items + p.reading ≤ 33554432) (x : IsExpanding p e.value) (literal : e.value.expander.machine.file ≡ file.literal) (good_after : IsProgress q) (n_is : n ≡ f.value.expander.machine.used) (used : IsUsed p q e.value f.value (use1.Gives t)) where
+  after_is : ahead_in q f.value ≡ next_token (table_for q f.value) used.2 (LIMIT - n)
+  after_is = used.5 ∙ ap (λ m. next_token (table_for q f.value) used.2 (LIMIT - m)) (sym n_is)
 
-  before_is : ahead_in p e ≡ Gave (Some (record { tokens = token_of q.names used.0 t ∷ []; rest = used.2 })) (LIMIT - n) used.1
+  before_is : ahead_in p e.value ≡ Gave (Some (record { tokens = token_of q.names used.0 t ∷ []; rest = used.2 })) (LIMIT - n) used.1
   before_is = used.4 ∙ ap (λ m. Gave (Some (record { tokens = token_of q.names used.0 t ∷ []; rest = used.2 })) (LIMIT - m) used.1) (sym n_is)
 
   limit : n ≤ LIMIT
@@ -280,16 +281,13 @@ module _ (law : KeepsMacros) (w : World) (u : Unit) (files : List KnownFile) (p 
     ended_working fault h.1,
   )
   run_gives doing.Reads h = absurd h
-  run_gives (doing.Decides g given d hash) h = absurd h
-  run_gives (doing.Includes g given hash) h = absurd h
+  run_gives (doing.Decides l d) h = absurd h
+  run_gives (doing.Includes l) h = absurd h
   run_gives (doing.Looks paths site) h = absurd h
 
 -- the run is at its end, where a use of a rule changes nothing
-pub run_ends : (w : World) (u : Unit) (files : List KnownFile) (p q : Progress) (file : OpenFile) (e f : Expansion) (next : Then) (n : ℕ) → n ≡ f.expander.machine.used → IsUsed p q e f use1.Ends → (k : Task Nothing)
+pub run_ends : (w : World) (u : Unit) (files : List KnownFile) (p q : Progress) (file : OpenFile) (e f : Boxed) (next : Then) (n : ℕ) → n ≡ f.value.expander.machine.used → IsUsed p q e.value f.value use1.Ends → (k : Task Nothing)
     → Leads 0 p (with_used q n) (doing_left w u p (reading_of p.names files file) k (doing.Expands e next)) (then_left w u (reading_of q.names files file) k next (Goes Done (state_of (with_used q n)) []))
 run_ends w u files p q file e f next n n_is used k =
     subst (λ y. Leads 0 p (with_used y n) (doing_left w u p (reading_of p.names files file) k (doing.Expands e next)) (then_left w u (reading_of y.names files file) k next (Goes Done (state_of (with_used y n)) []))) (sym used.0)
     (run_ended w u files p file e next n (used.2 ∙ ap (λ m. Gave None (LIMIT - m) []) (sym n_is)) k)
-
-pub ends_good : (p q : Progress) (e f : Expansion) (n : ℕ) → n ≡ f.expander.machine.used → IsUsed p q e f use1.Ends → IsProgress q → IsProgress (with_used q n)
-ends_good p q e f n n_is used good = used_good q n good (subst (λ m. m ≤ LIMIT) (sym n_is) used.1)

@@ -1,5 +1,5 @@
 -- Turns one after another, up to a step or the unit's end.
-use Rattle.std.proofs.Common.{◌≡◌, ◌<◌, ◌^◌, List, [], length, refl, sym, ap, ◌∙◌, subst, Option, Some, None}
+use Rattle.std.proofs.Common.{◌≡◌, List, [], refl, sym, ap, ◌∙◌, subst, Some, None}
 use Rattle.std.specs.Prelude.{Vec, Result, Ok, IfOk}
 use Rattle.cr_base.specs.declared.memory.OutOfMemory.{OutOfMemory}
 use Rattle.std.specs.declared.alloc.Global.{Global}
@@ -17,12 +17,12 @@ use Rattle.cr_preproc.specs.declared.preproc.PreTurn.TheVariants as pre
 use Rattle.cr_preproc.specs.declared.preproc.Preproc.{Preproc}
 use Rattle.cr_preproc.specs.declared.turning.Turned.{Turned}
 use Rattle.cr_preproc.specs.declared.turning.Turned.TheVariants as turned
-use Rattle.cr_phase4.specs.Tasks.{Needs, Reply, Goes, Ends, Task, Nothing, Done}
+use Rattle.cr_phase4.specs.Tasks.{Needs, Goes, Ends, Task, Nothing, Done}
 use Rattle.cr_phase4.specs.Search.{World, world_of}
 use Rattle.cr_preproc.specs.Progressing.{state_of, IsProgress}
 use Rattle.cr_preproc.specs.Leading.{Leads}
 use Rattle.cr_preproc.specs.Turning.{IsOpened, IsWorking}
-use Rattle.cr_preproc.specs.Preprocs.{firsts_left, going_left, left_by, left_of, IsOuter, AreOpen, IsGoing, IsSound, HasRoom, IsSameUnit, IsOfSearch, TurnLeads, IsTurn, IsPreStep, IsSilent, answer_of, path_of}
+use Rattle.cr_preproc.specs.Preprocs.{firsts_left, going_left, left_by, left_of, IsOuter, AreOpen, IsGoing, IsSound, IsSameUnit, IsOfSearch, TurnLeads, IsTurn, IsPreStep, IsSilent, answer_of, path_of}
 use Rattle.cr_preproc.proofs.Leadings.{leads_same, leads_then, leads_from}
 
 pub going_is : (files : List KnownFile) (p : Preproc) → p.ending ≡ None → IsSound files p → IsProgress p.progress × AreOpen files p p.file
@@ -60,16 +60,6 @@ same_but_progress p q e h = record {
   going = e;
   ending = ap (λ x. x.ending) h ∙ e;
 }
-
--- there is room, however the unit goes on
-pub has_room : (names : List Text) (end : Option Ending) → length names < 2 ^ 31 → HasRoom names end
-has_room names None h = h
-has_room names (Some ending.Done) h = h
-has_room names (Some (ending.Ill fault)) h = h
-has_room names (Some ending.OutOfMemory) h = tt
-
-pub room_is : (names : List Text) (end : Option Ending) → end ≡ None → HasRoom names end → length names < 2 ^ 31
-room_is names end e h = subst (HasRoom names) e h
 
 pub silent_begins : (files : List KnownFile) (p : Preproc) → IsSound files p → p.ending ≡ None → IsSilent files p p
 silent_begins files p good e = record { leads = leads_same p.progress (left_of files p); sound = good; going = e }

@@ -1,5 +1,6 @@
 -- A list that is expanded, as the code does it: what it still gives, and what one more use of a rule does.
-use Rattle.std.specs.Prelude.{◌≡◌, ◌≤◌, ◌-◌, true, List, [], ◌∷◌, ◌++◌, map, flat_map, Option, Some, None}
+use Rattle.std.specs.Prelude.{◌≡◌, ◌≤◌, ◌-◌, true, List, [], ◌∷◌, ◌++◌, map, flat_map, Option, Some, None, Box}
+use Rattle.std.specs.declared.alloc.Global.{Global}
 use Rattle.cr_base.specs.declared.token.Place.{Place}
 use Rattle.cr_base.specs.declared.cause.IllCause.{IllCause}
 use Rattle.cr_base.specs.declared.cause.IllCause.TheVariants as cause
@@ -25,6 +26,10 @@ use Rattle.cr_macros.specs.declared.macros.Seen.{Seen}
 use Rattle.cr_phase4.specs.Traces.{opaque_place}
 use Rattle.cr_phase4.specs.Tasks.{End, Ill, Over, Tokens, Macros, Reading, Includes, Told, end_of, told_by_uses}
 use Rattle.cr_preproc.specs.Progressing.{IsTold}
+
+-- an expansion that stays where it is
+abbrev pub Boxed : Type 0
+Boxed = Box Expansion Global
 
 -- what the expansion gives, and what it gives next
 abbrev pub still_in : Progress → Expansion → Answer (List Token)

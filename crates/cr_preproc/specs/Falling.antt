@@ -33,8 +33,8 @@ then_rank (then.Fails f) = 1
 abbrev pub rank : OpenFile → Doing → ℕ
 rank f doing.Reads = line_rank f.line.items
 rank f (doing.Expands e next) = then_rank next
-rank f (doing.Decides e given d hash) = 5
-rank f (doing.Includes e given hash) = 4
+rank f (doing.Decides l d) = 5
+rank f (doing.Includes l) = 4
 rank f (doing.Looks paths site) = 3
 rank f (doing.Fails fault) = 0
 

@@ -8,6 +8,7 @@ pub mod Progressing
 pub mod OpenFiles
 pub mod Expanding
 pub mod Leading
+pub mod Listings
 pub mod Turning
 pub mod OpenFileSteps
 pub mod Preprocs

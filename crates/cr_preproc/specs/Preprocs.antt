@@ -1,5 +1,5 @@
 -- A unit that is preprocessed step by step: what is left of it, and what a run of steps gives.
-use Rattle.std.specs.Prelude.{◌≡◌, ◌<◌, ◌^◌, ℕ, suc, ◌+◌, List, [], ◌∷◌, length, map, reverse, Option, Some, None, Result, Ok, Err}
+use Rattle.std.specs.Prelude.{◌≡◌, ◌<◌, ◌^◌, ℕ, suc, List, [], ◌∷◌, length, map, reverse, Option, Some, None, Result, Ok, Err}
 use Rattle.std.specs.List.{AllByRecursion}
 use Rattle.std.specs.Prelude.{Vec}
 use Rattle.std.specs.declared.alloc.Global.{Global}
@@ -28,7 +28,7 @@ use Rattle.cr_phase4.specs.Preprocessing.{does_first_file, preprocessed}
 use Rattle.cr_phase4.specs.Traces.{trace_of}
 use Rattle.cr_preproc.specs.OpenFiles.{reads_file, reading_of, IsOpen}
 use Rattle.cr_preproc.specs.Progressing.{state_of, kept, IsProgress}
-use Rattle.cr_preproc.specs.Expanding.{ended_by, end_by}
+use Rattle.cr_preproc.specs.Expanding.{end_by}
 use Rattle.cr_preproc.specs.Leading.{Leads}
 use Rattle.cr_preproc.specs.Turning.{doing_left, IsWorking}
 
@@ -82,18 +82,11 @@ IsGoing files p (Some ending.OutOfMemory) = Prim.Unit {0}
 abbrev pub IsSound : List KnownFile → Preproc → Type 0
 IsSound files p = IsGoing files p p.ending
 
--- There is room in the table of names for what a step may put into it, and for the tokens behind it; of want of memory nothing
--- is said.
-abbrev pub HasRoom : List Text → Option Ending → Type 0
-HasRoom names None = length names < 2 ^ 31
-HasRoom names (Some ending.Done) = length names < 2 ^ 31
-HasRoom names (Some (ending.Ill fault)) = length names < 2 ^ 31
-HasRoom names (Some ending.OutOfMemory) = Prim.Unit {0}
-
--- A unit on which steps may be made.
+-- A unit on which steps may be made: there is room in the table of names for what a step may put into it, and for the tokens
+-- behind it.
 pub record IsPreproc (files : List KnownFile) (p : Preproc) : Type 0 where
   pub sound : IsSound files p
-  pub room : HasRoom p.progress.names p.ending
+  pub room : length p.progress.names < 2 ^ 31
 
 -- A unit of which nothing is preprocessed.
 pub record IsFresh (unit : Unit) (old new : Text) (p : Preproc) : Type 0 where

@@ -17,6 +17,6 @@ IsGiving p q t next (doing.Expands e then) =
     ((hide : List Text) → Did 0 p q (gives (token_of p.names hide t ∷ [])) Done) × (q ≡ record p { tokens = q.tokens; trace = q.trace }) × (doing.Expands e then ≡ next)
 IsGiving p q t next (doing.Fails fault) = (length p.tokens.items ≡ MOST_TOKENS) × (q ≡ p) × (end_by fault ≡ Over Tokens)
 IsGiving p q t next doing.Reads = ⊥
-IsGiving p q t next (doing.Decides e given d hash) = ⊥
-IsGiving p q t next (doing.Includes e given hash) = ⊥
+IsGiving p q t next (doing.Decides l d) = ⊥
+IsGiving p q t next (doing.Includes l) = ⊥
 IsGiving p q t next (doing.Looks paths site) = ⊥

@@ -28,8 +28,9 @@ use Rattle.cr_phase4.specs.Directives.{Opening, opens, directive}
 use Rattle.cr_phase4.specs.Preprocessing.{does_file}
 use Rattle.cr_preproc.specs.OpenFiles.{Reading, reads_behind, reads_file, reading_of, IsOpen}
 use Rattle.cr_preproc.specs.Progressing.{state_of, IsProgress}
-use Rattle.cr_preproc.specs.Expanding.{IsExpanding, ahead_in, still_in, table_for, end_by}
-use Rattle.cr_preproc.specs.Leading.{Leads, run_left, list_left, decided, includes_given}
+use Rattle.cr_preproc.specs.Expanding.{IsExpanding, ahead_in, table_for, end_by}
+use Rattle.cr_preproc.specs.Leading.{Leads, run_left, decided, includes_given}
+use Rattle.cr_preproc.specs.Listings.{IsListing, listing_left}
 use Rattle.cr_preproc.specs.Seen.{AreNamed}
 
 -- the file goes on behind its present line, with these open conditionals and this run
@@ -54,13 +55,11 @@ then_left w u r k (then.Fails f) reply = Ends (earlier (end_by f) reply) (events
 -- What is left, where k comes behind the file.
 abbrev pub doing_left : World → Unit → Progress → Reading → Task Nothing → Doing → Reply Nothing
 doing_left w u p r k doing.Reads = (reads_file w u r >>> λ d. k) (state_of p)
-doing_left w u p r k (doing.Expands e next) = then_left w u r k next (run_left (table_for p e) (state_of p) (ahead_in p e))
-doing_left w u p r k (doing.Decides e given d hash) =
-    go_on (after_run r.path r.run (state_of p) (list_left hash (state_of p) (tokens_of p.names given.items) (still_in p e) (decided d hash r.open_ifs)))
-    (λ cs. file_goes w u r cs r.run >>> λ n. k)
-doing_left w u p r k (doing.Includes e given hash) =
-    go_on (list_left hash (state_of p) (tokens_of p.names given.items) (still_in p e) (includes_given w u (does_file w u r.levels) r.path hash))
-    (λ d. file_goes w u r r.open_ifs [] >>> λ n. k)
+doing_left w u p r k (doing.Expands e next) = then_left w u r k next (run_left (table_for p e.value) (state_of p) (ahead_in p e.value))
+doing_left w u p r k (doing.Decides l d) =
+    go_on (after_run r.path r.run (state_of p) (listing_left p l (decided d l.hash r.open_ifs))) (λ cs. file_goes w u r cs r.run >>> λ n. k)
+doing_left w u p r k (doing.Includes l) =
+    go_on (listing_left p l (includes_given w u (does_file w u r.levels) r.path l.hash)) (λ d. file_goes w u r r.open_ifs [] >>> λ n. k)
 doing_left w u p r k (doing.Looks paths site) = (opens w (does_file w u r.levels) site paths.items >>> λ d. reads_file w u r >>> λ n. k) (state_of p)
 doing_left w u p r k (doing.Fails fault) = Ends (end_by fault) []
 
@@ -78,9 +77,9 @@ enters w u (Some levels) = does_file w u (suc levels)
 -- what is done has what it works with
 abbrev pub IsDoing : Progress → OpenFile → Doing → Type 0
 IsDoing p f doing.Reads = Prim.Unit {0}
-IsDoing p f (doing.Expands e next) = IsExpanding p e × (e.expander.machine.file ≡ f.literal)
-IsDoing p f (doing.Decides e given d hash) = IsExpanding p e × (e.expander.machine.file ≡ f.literal) × AreNamed p.names given.items
-IsDoing p f (doing.Includes e given hash) = IsExpanding p e × (e.expander.machine.file ≡ f.literal) × AreNamed p.names given.items
+IsDoing p f (doing.Expands e next) = IsExpanding p e.value × (e.value.expander.machine.file ≡ f.literal)
+IsDoing p f (doing.Decides l d) = IsListing p l × (l.expansion.value.expander.machine.file ≡ f.literal)
+IsDoing p f (doing.Includes l) = IsListing p l × (l.expansion.value.expander.machine.file ≡ f.literal)
 IsDoing p f (doing.Looks paths site) = f.line.items ≡ []
 IsDoing p f (doing.Fails fault) = Prim.Unit {0}
 
@@ -170,8 +169,8 @@ abbrev pub LooksAt : List Text → Place → Doing → Type 0
 LooksAt paths site (doing.Looks found at) = (found.items ≡ paths) × (at ≡ site)
 LooksAt paths site doing.Reads = ⊥
 LooksAt paths site (doing.Expands e next) = ⊥
-LooksAt paths site (doing.Decides e given d hash) = ⊥
-LooksAt paths site (doing.Includes e given hash) = ⊥
+LooksAt paths site (doing.Decides l d) = ⊥
+LooksAt paths site (doing.Includes l) = ⊥
 LooksAt paths site (doing.Fails fault) = ⊥
 
 -- a file that was found is no larger than a file may be

@@ -99,27 +99,27 @@ fn keep(trace: &mut Trace, seen: &[Seen], before: usize) -> Result<(), OutOfMemo
 }
 
 impl Expansion {
-    // The expansion of a list, which is still to be done.
-    pub fn new(
+    // The expansion of a list, which is still to be done; in a box, so that it stays where it is.
+    pub fn boxed(
         alloc: Global,
         progress: &Progress,
         literal: Name,
         place: Place,
         tokens: &[PpTok],
-    ) -> Result<Expansion, OutOfMemory>
+    ) -> Result<Box<Expansion>, OutOfMemory>
         requires good { IsProgress progress.now }
         requires literal { IsNameKnown progress.now.names literal }
         requires tokens { AreNamed progress.now.names tokens.now }
-        ensures expanding { IfOk result (λ e. IsExpanding progress.now e) }
-        ensures ahead { IfOk result (λ e. ahead_in progress.now e ≡ next_token (table_of progress.now.names progress.now.macros (text_of progress.now.names literal)) (tokens_of progress.now.names tokens.now) (LIMIT - progress.now.used)) }
-        ensures still { IfOk result (λ e. still_in progress.now e ≡ expand (table_of progress.now.names progress.now.macros (text_of progress.now.names literal)) (tokens_of progress.now.names tokens.now) (LIMIT - progress.now.used)) }
-        ensures literal { IfOk result (λ e. e.expander.machine.file ≡ literal) }
+        ensures expanding { IfOk result (λ e. IsExpanding progress.now e.value) }
+        ensures ahead { IfOk result (λ e. ahead_in progress.now e.value ≡ next_token (table_of progress.now.names progress.now.macros (text_of progress.now.names literal)) (tokens_of progress.now.names tokens.now) (LIMIT - progress.now.used)) }
+        ensures still { IfOk result (λ e. still_in progress.now e.value ≡ expand (table_of progress.now.names progress.now.macros (text_of progress.now.names literal)) (tokens_of progress.now.names tokens.now) (LIMIT - progress.now.used)) }
+        ensures literal { IfOk result (λ e. e.value.expander.machine.file ≡ literal) }
     {
         let renaming = progress.renaming;
         let mut expander = Expander::new(alloc, renaming.old, renaming.new, literal, progress.used);
         expander.feed(tokens)?;
         expander.finish();
-        Ok(Expansion { expander, place })
+        Ok(Box::new(alloc, Expansion { expander, place })?)
     }
 
     // The next use of a rule, with its roles noted.

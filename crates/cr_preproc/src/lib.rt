@@ -15,6 +15,7 @@ mod expansion;
 mod header;
 mod include;
 mod line;
+mod listing;
 mod once;
 mod open_file;
 mod open_ifs;

@@ -1,5 +1,5 @@
 //! A file that is read.
-ghost use Rattle.std.specs.Prelude.{◌≡◌, ◌≤◌, ◌<◌, ◌^◌, ◌++◌, ◌&&◌, [], List, length, IfOk, OnOk, OnErr};
+ghost use Rattle.std.specs.Prelude.{◌≡◌, ◌≤◌, ◌<◌, ◌^◌, ◌&&◌, [], List, length, IfOk, OnOk, OnErr};
 ghost use Rattle.cr_base.specs.NameTable.{IsDistinct};
 ghost use Rattle.cr_lex.specs.Lexing.{lexed};
 ghost use Rattle.cr_macros.specs.Tokens.{Text, tokens_of};
@@ -18,6 +18,7 @@ use crate::line::{Line, line_of};
 use crate::open_ifs::OpenIfs;
 use crate::reader::{Coming, Reader};
 use cr_base::{Name, NameTable, OutOfMemory, PathNo, PathText, PpTok};
+use cr_expand::put_escaped;
 use cr_snapshot::known_files_stay_known;
 use std::alloc::Global;
 
@@ -34,19 +35,6 @@ pub struct OpenFile {
     pub open_ifs: OpenIfs,
     pub run: Vec<PpTok>,
     pub line: Vec<PpTok>,
-}
-
-// Puts the bytes behind, with a backslash before each quote and backslash.
-fn put_escaped(out: &mut Vec<u8>, bytes: &[u8]) -> Result<(), OutOfMemory>
-    ensures { OnOk result (out.new.items ≡ out.old.items ++ escaped bytes.now) }
-{
-    for i in 0..bytes.len() {
-        if bytes[i] == b'"' || bytes[i] == b'\\' {
-            out.push(b'\\')?;
-        }
-        out.push(bytes[i])?;
-    }
-    Ok(())
 }
 
 // The string that `__FILE__` gives in the file at a path.

@@ -12,7 +12,7 @@ ghost use Rattle.cr_preproc.specs.Progressing.{IsProgress};
 ghost use Rattle.cr_preproc.specs.Falling.{Falls, CountsFile, TurnFalls};
 ghost use Rattle.cr_phase4.specs.Preprocessing.{does_first_file};
 ghost use Rattle.cr_macros.specs.Tokens.{Text};
-ghost use Rattle.cr_preproc.specs.Preprocs.{IsFresh, IsPreproc, IsSound, HasRoom, IsPreStep, IsTurn, IsOuter, IsSameUnit, IsSilent, answer_of, path_of, next_of, IsOfSearch, GoesByTheDefinition, EndsByTheDefinition};
+ghost use Rattle.cr_preproc.specs.Preprocs.{IsFresh, IsPreproc, IsSound, IsPreStep, IsTurn, IsOuter, IsSameUnit, IsSilent, answer_of, path_of, next_of, IsOfSearch, GoesByTheDefinition, EndsByTheDefinition};
 
 use crate::expansion::Fault;
 use crate::open_file::OpenFile;
@@ -117,7 +117,8 @@ impl Preproc {
     /// `Ill` and want of memory it answers the same again.
     ///
     /// What was left of the unit's preprocessing is the events that a step kept, and then what is left now,
-    /// also where the unit ends. Of a use of a rule that fails nothing is told.
+    /// also where the unit ends. Of a use of a rule that fails nothing is told. Where memory is wanting the
+    /// tokens, the trace and the names are given back.
     pub fn step(&mut self, snapshot: &Snapshot) -> Result<PreTurn, OutOfMemory>
         requires good { IsPreproc snapshot.now self.old }
         ensures step { IfOk result (λ turn. IsPreStep snapshot.now self.old self.new turn) }
@@ -150,8 +151,17 @@ impl Preproc {
                 Err(_) => break,
             }
         }
-        self.ending = Some(Ending::OutOfMemory);
+        self.run_out();
         Err(OutOfMemory)
+    }
+
+    // Memory is wanting: what was made is given back, for nothing is said of it any more.
+    fn run_out(&mut self)
+        ensures good { (files : ListOf TheFile) → IsPreproc files self.new }
+        ensures ending { self.new.ending ≡ Some Ending.OutOfMemory }
+    {
+        self.progress.give_back(self.alloc);
+        self.ending = Some(Ending::OutOfMemory);
     }
 
     // A step, or something that is none.
@@ -160,7 +170,7 @@ impl Preproc {
         requires going { self.old.ending ≡ None }
         ensures turn { IfOk result (λ turn. IsTurn snapshot.now self.old self.new turn) }
         ensures falls { IfOk result (λ turn. TurnFalls self.old self.new turn) }
-        ensures room { OnOk result (HasRoom self.new.progress.names self.new.ending) }
+        ensures room { OnOk result (length self.new.progress.names < 2 ^ 31) }
     {
         let step = self.turn_in_room(snapshot)?;
         self.progress.check_room()?;
@@ -325,10 +335,10 @@ impl Preproc {
         &self.progress.trace
     }
 
-    /// The table that gave the names of the tokens. It holds fewer than 2^31 texts, but after want of memory.
+    /// The table that gave the names of the tokens. It holds fewer than 2^31 texts.
     pub fn names(&self) -> &NameTable
         ensures names { result.now ≡ self.now.progress.names }
-        ensures room { (files : ListOf TheFile) → IsPreproc files self.now → HasRoom result.now self.now.ending }
+        ensures room { (files : ListOf TheFile) → IsPreproc files self.now → length result.now < 2 ^ 31 }
     {
         &self.progress.names
     }
@@ -336,7 +346,7 @@ impl Preproc {
     /// These three.
     pub fn into_parts(self) -> (NameTable, Vec<PpTok>, Trace)
         ensures parts { result ≡ (self.progress.names, self.progress.tokens, self.progress.trace) }
-        ensures room { (files : ListOf TheFile) → IsPreproc files self → HasRoom result.0 self.ending }
+        ensures room { (files : ListOf TheFile) → IsPreproc files self → length result.0 < 2 ^ 31 }
     {
         let Preproc { progress, .. } = self;
         let Progress {

@@ -98,6 +98,15 @@ impl Progress {
         }
     }
 
+    // Gives back the table of names, the tokens and the trace.
+    pub fn give_back(&mut self, alloc: Global)
+        ensures { self.new.names ≡ [] }
+    {
+        self.names = NameTable::new(alloc);
+        self.tokens = Vec::new(alloc);
+        self.trace = Trace::new(alloc);
+    }
+
     // Notes for what a token is taken.
     pub fn note(&mut self, role: Role, t: PpTok) -> Result<(), OutOfMemory>
         requires good { IsProgress self.old }

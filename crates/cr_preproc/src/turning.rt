@@ -9,10 +9,9 @@ ghost use Rattle.cr_snapshot.specs.declared.known.KnownFile.{KnownFile as TheFil
 ghost use Rattle.cr_snapshot.specs.Files.{finding, Present};
 ghost use Rattle.cr_snapshot.specs.IncludeSearch.{candidates};
 ghost use Rattle.cr_preproc.specs.declared.progress.Progress.{Progress as TheProgress};
-ghost use Rattle.cr_preproc.specs.declared.expansion.Expansion.{Expansion as TheExpansion};
 ghost use Rattle.cr_preproc.specs.declared.open_file.OpenFile.{OpenFile as TheOpenFile};
 ghost use Rattle.cr_preproc.specs.declared.turning.Doing.{Doing as TheDoing};
-ghost use Rattle.cr_phase4.specs.Tasks.{State, Task, Nothing, Done, Reply, Ends, Goes, go_on, ◌>>>◌, in_directive, moved};
+ghost use Rattle.cr_phase4.specs.Tasks.{State, Task, Nothing, Done, Reply, Ends, Goes, go_on, ◌>>>◌, in_directive};
 ghost use Rattle.cr_phase4.specs.Lines as lines;
 ghost use Rattle.cr_phase4.specs.Search as searching;
 ghost use Rattle.cr_phase4.specs.Search.{World, world_of};
@@ -23,8 +22,9 @@ ghost use Rattle.cr_preproc.specs.OpenFiles.{Reading, reading_of, IsOpen, reads_
 ghost use Rattle.cr_preproc.specs.OpenFileSteps.{HasLine, LacksLine, TellsNext};
 ghost use Rattle.cr_preproc.specs.Progressing.{state_of, IsProgress};
 ghost use Rattle.cr_expand.specs.declared.machine.TheConstants.{LIMIT};
-ghost use Rattle.cr_preproc.specs.Expanding.{end_by, IsUsed, IsExpanding, still_in, ahead_in, table_for};
+ghost use Rattle.cr_preproc.specs.Expanding.{Boxed, end_by, IsUsed, IsExpanding, still_in, ahead_in, table_for};
 ghost use Rattle.cr_preproc.specs.Leading.{Leads, IsLed, IsDirected, decided, includes_given, list_left, run_left};
+ghost use Rattle.cr_preproc.specs.Listings.{IsListing};
 ghost use Rattle.cr_preproc.specs.Turning.{doing_left, then_left, file_goes, carried, directed_left, ended_behind, enters, IsDoing, IsWorking, IsTurned, IsNext, IsBehind, IsOpened, IsEnded, AreAsked, led_left, LooksAt, IsSmall, IsFitting, WantsNoFile, decision_left};
 ghost use Rattle.cr_preproc.specs.RunTurns.{IsGiving};
 ghost use Rattle.cr_preproc.specs.Falling.{then_rank, rank, Falls, CountsFile, IsBelow, IsUnexpanded};
@@ -36,6 +36,7 @@ use crate::expansion::{Expansion, Fault, Use};
 use crate::header::Header;
 use crate::include::included;
 use crate::line::{Line, line_of};
+use crate::listing::{Listed, Listing};
 use crate::open_file::OpenFile;
 use crate::progress::Progress;
 use crate::reader::Coming;
@@ -64,11 +65,11 @@ pub enum Doing {
     // A token is taken, or the present line is carried out.
     Reads,
     // The run is expanded, and then this comes.
-    Expands(Expansion, Then),
-    // The list of the conditional at this place is expanded, and gave these tokens so far.
-    Decides(Expansion, Vec<PpTok>, Decision, Place),
-    // The list of the include at this place is expanded, and gave these tokens so far.
-    Includes(Expansion, Vec<PpTok>, Place),
+    Expands(Box<Expansion>, Then),
+    // The list of a conditional is expanded.
+    Decides(Listing, Decision),
+    // The list of an include is expanded.
+    Includes(Listing),
     // The file of an include at this place is looked for at these paths.
     Looks(Vec<PathText>, Place),
     // Nothing: the unit ends so.
@@ -147,7 +148,7 @@ fn expand_run(
     ensures falls { (f : TheOpenFile) → IfOk result (λ d. rank f d ≡ then_rank then) }
 {
     let place = site_of(start_of(file), &file.run);
-    let expansion = Expansion::new(alloc, progress, file.literal, place, &file.run)?;
+    let expansion = Expansion::boxed(alloc, progress, file.literal, place, &file.run)?;
     Ok(Doing::Expands(expansion, then))
 }
 
@@ -293,8 +294,8 @@ fn follow(
         }
         Led::Fails(fault) => expand_run(alloc, progress, file, Then::Fails(fault)),
         Led::Asks(decision, list) => {
-            let expansion = Expansion::new(alloc, progress, file.literal, hash, &list)?;
-            Ok(Doing::Decides(expansion, Vec::new(alloc), decision, hash))
+            let listing = Listing::new(alloc, progress, file.literal, hash, &list)?;
+            Ok(Doing::Decides(listing, decision))
         }
     }
 }
@@ -407,8 +408,8 @@ fn follow_directed(
         Directed::Goes => Ok(Ok(Doing::Reads)),
         Directed::Fails(fault) => Ok(Err(fault)),
         Directed::Expands => {
-            let expansion = Expansion::new(context.alloc, progress, file.literal, hash, rest)?;
-            Ok(Ok(Doing::Includes(expansion, Vec::new(context.alloc), hash)))
+            let listing = Listing::new(context.alloc, progress, file.literal, hash, rest)?;
+            Ok(Ok(Doing::Includes(listing)))
         }
         Directed::Looks(header, site) => {
             let doing = look(context, file, &header, site)?;
@@ -483,7 +484,7 @@ fn after_run(
     requires open { IsOpen progress.old.names context.snapshot.now file.old }
     requires line { length file.old.line.items + progress.old.reading ≤ 33554432 }
     ensures turned { (p : TheProgress) (d : TheDoing) → IsProgress p → ((k : Task Nothing) → Leads 0 p progress.old (doing_left (world_of context.entry.snapshot.now) context.entry.unit.now p (reading_of p.names context.entry.snapshot.now file.old) k d) (then_left (world_of context.entry.snapshot.now) context.entry.unit.now (reading_of progress.old.names context.entry.snapshot.now file.old) k then (Goes Done (state_of progress.old) []))) → IfOk result (λ t. IsTurned (world_of context.entry.snapshot.now) context.entry.unit.now context.entry.snapshot.now p progress.new file.old file.new d doing.new t) }
-    ensures falls { (p : TheProgress) (e : TheExpansion) → p.reading ≡ progress.old.reading → IfOk result (λ t. Falls p progress.new file.old file.new (Doing.Expands e then) doing.new t) }
+    ensures falls { (p : TheProgress) (e : Boxed) → p.reading ≡ progress.old.reading → IfOk result (λ t. Falls p progress.new file.old file.new (Doing.Expands e then) doing.new t) }
 {
     match then {
         Then::Fails(fault) => Ok(Turned::Ends(fault)),
@@ -499,7 +500,7 @@ fn after_run(
 fn give(
     progress: &mut Progress,
     t: PpTok,
-    expansion: Expansion,
+    expansion: Box<Expansion>,
     then: Then,
 ) -> Result<Doing, OutOfMemory>
     requires good { IsProgress progress.old }
@@ -550,16 +551,6 @@ fn after_decision(
     }
 }
 
-// The fault of a list, which stands at the `#` of its directive.
-fn at(hash: Place, fault: Fault) -> Fault
-    ensures { end_by result ≡ moved hash (end_by fault) }
-{
-    Fault {
-        cause: fault.cause,
-        place: hash,
-    }
-}
-
 // What comes of the end of the list of an include.
 fn after_include(
     context: Context,
@@ -601,21 +592,12 @@ pub fn turn(
             let turned = run_turn(context, progress, file, doing, expansion, then)?;
             Ok(turned)
         }
-        Doing::Decides(expansion, given, decision, hash) => {
-            let turned = decide_turn(
-                context.alloc,
-                progress,
-                file,
-                doing,
-                expansion,
-                given,
-                decision,
-                hash,
-            )?;
+        Doing::Decides(listing, decision) => {
+            let turned = decide_turn(context.alloc, progress, file, doing, listing, decision)?;
             Ok(turned)
         }
-        Doing::Includes(expansion, given, hash) => {
-            let turned = include_turn(context, progress, file, doing, expansion, given, hash)?;
+        Doing::Includes(listing) => {
+            let turned = include_turn(context, progress, file, doing, listing)?;
             Ok(turned)
         }
         Doing::Looks(paths, site) => {
@@ -666,15 +648,15 @@ fn run_turn(
     progress: &mut Progress,
     file: &mut OpenFile,
     doing: &mut Doing,
-    mut expansion: Expansion,
+    mut expansion: Box<Expansion>,
     then: Then,
 ) -> Result<Turned, OutOfMemory>
     requires good { IsProgress progress.old }
     requires room { length progress.old.names < 2 ^ 31 }
     requires open { IsOpen progress.old.names context.snapshot.now file.old }
     requires line { length file.old.line.items + progress.old.reading ≤ 33554432 }
-    requires expanding { IsExpanding progress.old expansion }
-    requires literal { expansion.expander.machine.file ≡ file.old.literal }
+    requires expanding { IsExpanding progress.old expansion.value }
+    requires literal { expansion.value.expander.machine.file ≡ file.old.literal }
     ensures turned { IfOk result (λ t. IsTurned (world_of context.entry.snapshot.now) context.entry.unit.now context.entry.snapshot.now progress.old progress.new file.old file.new (Doing.Expands expansion then) doing.new t) }
     ensures falls { IfOk result (λ t. Falls progress.old progress.new file.old file.new (Doing.Expands expansion then) doing.new t) }
 {
@@ -704,39 +686,32 @@ fn decide_turn(
     progress: &mut Progress,
     file: &mut OpenFile,
     doing: &mut Doing,
-    mut expansion: Expansion,
-    mut given: Vec<PpTok>,
+    mut listing: Listing,
     decision: Decision,
-    hash: Place,
 ) -> Result<Turned, OutOfMemory>
     requires good { IsProgress progress.old }
     requires room { length progress.old.names < 2 ^ 31 }
-    requires literal { expansion.expander.machine.file ≡ file.old.literal }
-    requires expanding { IsExpanding progress.old expansion }
-    requires given { AreNamed progress.old.names given.items }
+    requires literal { listing.expansion.value.expander.machine.file ≡ file.old.literal }
+    requires listing { IsListing progress.old listing }
     requires run { AreNamed progress.old.names file.old.run.items }
-    ensures turned { (w : World) (u : TheUnit) (files : ListOf TheFile) → IsOpen progress.old.names files file.old → IsFitting progress.old file.old → IfOk result (λ t. IsTurned w u files progress.old progress.new file.old file.new (Doing.Decides expansion given decision hash) doing.new t) }
-    ensures falls { IfOk result (λ t. Falls progress.old progress.new file.old file.new (Doing.Decides expansion given decision hash) doing.new t) }
+    ensures turned { (w : World) (u : TheUnit) (files : ListOf TheFile) → IsOpen progress.old.names files file.old → IsFitting progress.old file.old → IfOk result (λ t. IsTurned w u files progress.old progress.new file.old file.new (Doing.Decides listing decision) doing.new t) }
+    ensures falls { IfOk result (λ t. Falls progress.old progress.new file.old file.new (Doing.Decides listing decision) doing.new t) }
 {
     defined_macros_are_known();
-    match expansion.step(progress)? {
-        Use::Goes => {
-            *doing = Doing::Decides(expansion, given, decision, hash);
+    match listing.step(progress)? {
+        Listed::Goes => {
+            *doing = Doing::Decides(listing, decision);
             Ok(Turned::Steps)
         }
-        Use::Gives(t) => {
-            given.push(t)?;
-            *doing = Doing::Decides(expansion, given, decision, hash);
-            Ok(Turned::Steps)
-        }
-        Use::Ends => {
+        Listed::Ends => {
             let before = progress.used;
-            progress.used = expansion.used();
-            *doing = after_decision(alloc, progress, file, &given, decision, hash, before)?;
+            progress.used = listing.used();
+            let (given, hash) = (&listing.given, listing.hash);
+            *doing = after_decision(alloc, progress, file, given, decision, hash, before)?;
             Ok(Turned::Goes)
         }
-        Use::Fails(fault) => {
-            *doing = expand_run(alloc, progress, file, Then::Fails(at(hash, fault)))?;
+        Listed::Fails(fault) => {
+            *doing = expand_run(alloc, progress, file, Then::Fails(fault))?;
             Ok(Turned::Goes)
         }
     }
@@ -747,36 +722,28 @@ fn include_turn(
     progress: &mut Progress,
     file: &mut OpenFile,
     doing: &mut Doing,
-    mut expansion: Expansion,
-    mut given: Vec<PpTok>,
-    hash: Place,
+    mut listing: Listing,
 ) -> Result<Turned, OutOfMemory>
     requires good { IsProgress progress.old }
     requires room { length progress.old.names < 2 ^ 31 }
     requires open { IsOpen progress.old.names context.snapshot.now file.old }
     requires line { length file.old.line.items + progress.old.reading ≤ 33554432 }
-    requires expanding { IsExpanding progress.old expansion }
-    requires literal { expansion.expander.machine.file ≡ file.old.literal }
-    requires given { AreNamed progress.old.names given.items }
-    ensures turned { IfOk result (λ t. IsTurned (world_of context.entry.snapshot.now) context.entry.unit.now context.entry.snapshot.now progress.old progress.new file.old file.new (Doing.Includes expansion given hash) doing.new t) }
-    ensures falls { IfOk result (λ t. Falls progress.old progress.new file.old file.new (Doing.Includes expansion given hash) doing.new t) }
+    requires listing { IsListing progress.old listing }
+    requires literal { listing.expansion.value.expander.machine.file ≡ file.old.literal }
+    ensures turned { IfOk result (λ t. IsTurned (world_of context.entry.snapshot.now) context.entry.unit.now context.entry.snapshot.now progress.old progress.new file.old file.new (Doing.Includes listing) doing.new t) }
+    ensures falls { IfOk result (λ t. Falls progress.old progress.new file.old file.new (Doing.Includes listing) doing.new t) }
 {
     defined_macros_are_known();
-    match expansion.step(progress)? {
-        Use::Goes => {
-            *doing = Doing::Includes(expansion, given, hash);
+    match listing.step(progress)? {
+        Listed::Goes => {
+            *doing = Doing::Includes(listing);
             Ok(Turned::Steps)
         }
-        Use::Gives(t) => {
-            given.push(t)?;
-            *doing = Doing::Includes(expansion, given, hash);
-            Ok(Turned::Steps)
-        }
-        Use::Ends => {
-            progress.used = expansion.used();
-            let next = after_include(context, progress, file, &given, hash)?;
+        Listed::Ends => {
+            progress.used = listing.used();
+            let next = after_include(context, progress, file, &listing.given, listing.hash)?;
             Ok(behind_run(file, doing, next))
         }
-        Use::Fails(fault) => Ok(Turned::Ends(at(hash, fault))),
+        Listed::Fails(fault) => Ok(Turned::Ends(fault)),
     }
 }

@@ -1,4 +1,4 @@
-use Rattle.std.proofs.Common.{sym, ◌∙◌, subst, refl, inl}
+use Rattle.std.proofs.Common.{sym, ◌∙◌, subst}
 use Rattle.std.specs.Prelude.{[]}
 use Rattle.cr_macros.specs.Tokens.{tokens_of}
 use Rattle.cr_preproc.specs.declared.turning.Doing.TheVariants as doing

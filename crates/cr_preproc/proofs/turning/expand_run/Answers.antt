@@ -14,5 +14,5 @@ returns-clause-left c w u files k o =
     let p = c.args.progress.now in
     let made = c.in_ok-expansion.ensures in
     ap (then_left w u (reading_of p.names files c.args.file.now) k c.args.then)
-    (run_begins p files c.args.file.now c.in_ok-expansion.expansion o made.literal
+    (run_begins p files c.args.file.now c.in_ok-expansion.expansion.value o made.literal
     (made.ahead ∙ ap (λ ts. next_token (table_of p.names p.macros (text_of p.names c.args.file.now.literal)) (tokens_of p.names ts) (LIMIT - p.used)) c.deref-2.ensures.value))

@@ -1,5 +1,6 @@
 use Rattle.std.proofs.Common.{◌≡◌, ◌<◌, ◌-◌, refl, ap, sym, subst, ◌∙◌, arith}
 use Rattle.std.specs.Prelude.{IfOk}
+use Rattle.cr_base.specs.declared.token.Place.{Place}
 use Rattle.cr_macros.specs.Definition.{text_of}
 use Rattle.cr_macros.specs.Expansion.{expand}
 use Rattle.cr_macros.specs.MacroTables.{table_of}
@@ -23,14 +24,16 @@ returns-in-Fails-clause-next c w u files k h =
     let r = reading_of p.names files c.args.file.now in
     subst (λ l. IfOk c.expand_run.result (λ e. doing_left w u p r k e ≡ led_left w u p r k c.args.hash l)) (sym c.in-Fails.is) (c.expand_run.ensures.left w u files k h.file)
 
-pub returns-in_ok-expansion-in-Asks-clause-next : goal.returns-in_ok-expansion-in-Asks-clause-next
-returns-in_ok-expansion-in-Asks-clause-next c w u files k h =
+pub returns-in_ok-listing-in-Asks-clause-next : goal.returns-in_ok-listing-in-Asks-clause-next
+returns-in_ok-listing-in-Asks-clause-next c w u files k h =
     let p = c.args.progress.now in
     let f = c.args.file.now in
     let r = reading_of p.names files f in
-    let made = c.in_ok-expansion-in-Asks.ensures in
-    ap (λ x. go_on (after_run f.path r.run (state_of p) x) (λ cs. file_goes w u r cs r.run >>> λ n. k))
-    (list_begins p files f c.in_ok-expansion-in-Asks.expansion c.args.hash (tokens_of p.names c.in-Asks.list.items) c.new-in-Asks.result.items (decided c.in-Asks.decision c.args.hash f.open_ifs) h.file c.new-in-Asks.ensures.items
+    let made = c.in_ok-listing-in-Asks.ensures in
+    let l = c.in_ok-listing-in-Asks.listing in
+    ap (λ (x : Place). doing_left w u p r k (doing.Decides (record l { hash = x }) c.in-Asks.decision)) made.hash
+    ∙ ap (λ x. go_on (after_run f.path r.run (state_of p) x) (λ cs. file_goes w u r cs r.run >>> λ n. k))
+    (list_begins p files f l.expansion.value c.args.hash (tokens_of p.names c.in-Asks.list.items) l.given.items (decided c.in-Asks.decision c.args.hash f.open_ifs) h.file made.given
     (made.still ∙ ap (λ ts. expand (table_of p.names p.macros (text_of p.names f.literal)) (tokens_of p.names ts) (LIMIT - p.used)) c.deref.ensures.value))
     ∙ ap (led_left w u p r k c.args.hash) (sym c.in-Asks.is)
 

@@ -22,11 +22,12 @@ returns-in-Fails c = record {
   unexpanded = λ h. tt;
 }
 
-pub returns-in_ok-expansion-in-Expands : goal.returns-in_ok-expansion-in-Expands
-returns-in_ok-expansion-in-Expands c = record {
+pub returns-in_ok-listing-in-Expands : goal.returns-in_ok-listing-in-Expands
+returns-in_ok-listing-in-Expands c = record {
   behind = λ old m same h.
+      let made = c.in_ok-listing-in-Expands.ensures in
       follow_expands (world_of c.args.context.snapshot.now) c.args.context.unit.now c.args.context.snapshot.now old c.args.progress.now c.args.file.now c.args.hash (tokens_of c.args.progress.now.names c.args.rest.now) m same c.requires.good c.args.directed
-      c.in_ok-expansion-in-Expands.expansion c.new-in-Expands.result c.in-Expands.is c.in_ok-expansion-in-Expands.ensures.expanding c.in_ok-expansion-in-Expands.ensures.literal c.requires.open.literal_text c.in_ok-expansion-in-Expands.ensures.still c.new-in-Expands.ensures.items h;
+      c.in_ok-listing-in-Expands.listing c.in-Expands.is made.listing made.literal c.requires.open.literal_text made.still made.given made.hash h;
   falls = λ g none. let h : 4 < 5 = omega arith in h;
   unexpanded = λ h. absurd (subst IsUnexpanded c.in-Expands.is h);
 }

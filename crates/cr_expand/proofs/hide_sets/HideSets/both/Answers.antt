@@ -1,25 +1,80 @@
-use Rattle.std.proofs.Common.{◌≡◌, ◌<◌, ◌-◌, length, rules, arith, ◌∙◌, get_or}
-use Rattle.cr_expand.specs.HideSets.{set_at}
-use Rattle.cr_expand.proofs.Sets.{name_below, grows_then, set_kept, common_at}
+use Rattle.std.proofs.Common.{◌≡◌, [], ◌<◌, ◌-◌, suc, length, refl, sym, rules, arith, ap, ◌∙◌, get_or, drop}
+use Rattle.cr_macros.specs.Definition.{has_name}
+use Rattle.cr_expand.specs.HideSets.{set_at, in_both}
+use Rattle.cr_expand.proofs.Onces.{both_none, common_new}
+use Rattle.cr_expand.proofs.Forks.{name_within, name_at, held_above, common_start}
+use Rattle.cr_expand.proofs.Sets.{name_below, grows_same, grows_then, common_at}
 use Rattle.cr_expand.proofs.hide_sets.HideSets.both.Goals as goal
+
+pub loop-i-init : goal.loop-i-init
+loop-i-init c =
+    let count : c.len-i.result ≡ length c.in_ok-fork.fork.names.items = search rules in
+    record {
+      below = λ bound h. h;
+      set = (
+        grows_same c.args.self.now,
+        c.in_ok-fork.ensures.known,
+        common_start c.args.self.now (set_at c.args.self.now c.args.set.0) (set_at c.args.self.now c.args.other.0) c.in_ok-fork.fork.at.0 c.in_ok-fork.fork.names.items c.in_ok-fork.fork.others.keys c.in_ok-fork.ensures ∙ ap (λ i. in_both (drop i (set_at c.args.self.now c.args.set.0)) (set_at c.args.self.now c.args.other.0)) (sym count),
+      );
+    }
+
+pub with_wanted-requires-clause-new : goal.with_wanted-requires-clause-new
+with_wanted-requires-clause-new c =
+    let sets = c.args.self.now in
+    let set = set_at sets c.args.set.0 in
+    let other = set_at sets c.args.other.0 in
+    let fork = c.in_ok-fork.fork in
+    let n = c.index.result.now in
+    let j = c.loop-i.i - 1 in
+    let step : c.loop-i.i ≡ suc j = omega (arith, c.loop-i-test.true) in
+    let long : j < length fork.names.items = search rules in
+    let here : n ≡ get_or fork.names.items j n = c.index.ensures in
+    let within : j < length set = name_within sets set other fork.at.0 fork.names.items fork.others.keys c.in_ok-fork.ensures j long in
+    let there : n ≡ get_or set j n = name_at sets set other fork.at.0 fork.names.items fork.others.keys c.in_ok-fork.ensures j n long here in
+    λ _. ap (λ x. has_name x n) c.loop-i.invariant.set.2 ∙ common_new set other j c.loop-i.i n c.in_ok-fork.ensures.once step within there
 
 pub loop-i-preserved : goal.loop-i-preserved
 loop-i-preserved c =
-    let long : c.loop-i.i - 1 < length c.in_ok-names.names.items = search rules in
-    let here : c.index.result.now ≡ get_or c.in_ok-names.names.items (c.loop-i.i - 1) c.index.result.now = c.index.ensures in
+    let sets = c.args.self.now in
+    let set = set_at sets c.args.set.0 in
+    let other = set_at sets c.args.other.0 in
+    let fork = c.in_ok-fork.fork in
+    let n = c.index.result.now in
+    let j = c.loop-i.i - 1 in
+    let step : c.loop-i.i ≡ suc j = omega (arith, c.loop-i-test.true) in
+    let long : j < length fork.names.items = search rules in
+    let here : n ≡ get_or fork.names.items j n = c.index.ensures in
+    let within : j < length set = name_within sets set other fork.at.0 fork.names.items fork.others.keys c.in_ok-fork.ensures j long in
+    let there : n ≡ get_or set j n = name_at sets set other fork.at.0 fork.names.items fork.others.keys c.in_ok-fork.ensures j n long here in
+    let held : c.contains.result ≡ has_name other n = held_above sets set other fork.at.0 fork.names.items fork.others.keys c.in_ok-fork.ensures c.contains.result j c.loop-i.i n step long here c.contains.ensures in
     record {
-      below = λ bound h. c.in_ok-common.ensures.below bound (name_below bound c.args.self.now c.args.set.0 c.in_ok-names.names.items (c.loop-i.i - 1) c.index.result.now h c.in_ok-names.ensures long here) (c.loop-i.invariant.below bound h);
+      below = λ bound h. c.in_ok-common.ensures.below bound (name_below bound sets c.args.set.0 set j n h refl within there) (c.loop-i.invariant.below bound h);
       set = (
-        grows_then c.args.self.now c.loop-i.self c.with_common.new.self c.loop-i.invariant.set.0 c.in_ok-common.ensures.puts.0,
+        grows_then sets c.loop-i.self c.with_wanted.new.self c.loop-i.invariant.set.0 c.in_ok-common.ensures.puts.0,
         c.in_ok-common.ensures.puts.1,
-        c.in_ok-common.ensures.puts.2
-            ∙ common_at c.in_ok-names.names.items (set_at c.args.self.now c.args.other.0) (set_at c.loop-i.self c.args.other.0) (c.loop-i.i - 1) c.loop-i.i c.index.result.now (set_at c.loop-i.self c.loop-i.common.0)
-            (omega (arith, c.loop-i-test.true)) long here (set_kept c.args.self.now c.loop-i.self c.args.other.0 c.loop-i.invariant.set.0 c.requires.other) c.loop-i.invariant.set.2,
+        c.in_ok-common.ensures.puts.2 ∙ common_at set other (set_at c.loop-i.self c.loop-i.common.0) c.contains.result j c.loop-i.i n c.in_ok-fork.ensures.once step within there held c.loop-i.invariant.set.2,
       );
     }
 
 pub returns-in_err-common-clause-below : goal.returns-in_err-common-clause-below
 returns-in_err-common-clause-below c = λ bound h.
-    let long : c.loop-i.i - 1 < length c.in_ok-names.names.items = search rules in
-    let here : c.index.result.now ≡ get_or c.in_ok-names.names.items (c.loop-i.i - 1) c.index.result.now = c.index.ensures in
-    c.in_err-common.ensures.below bound (name_below bound c.args.self.now c.args.set.0 c.in_ok-names.names.items (c.loop-i.i - 1) c.index.result.now h c.in_ok-names.ensures long here) (c.loop-i.invariant.below bound h)
+    let sets = c.args.self.now in
+    let set = set_at sets c.args.set.0 in
+    let other = set_at sets c.args.other.0 in
+    let fork = c.in_ok-fork.fork in
+    let n = c.index.result.now in
+    let j = c.loop-i.i - 1 in
+    let step : c.loop-i.i ≡ suc j = omega (arith, c.loop-i-test.true) in
+    let long : j < length fork.names.items = search rules in
+    let here : n ≡ get_or fork.names.items j n = c.index.ensures in
+    let within : j < length set = name_within sets set other fork.at.0 fork.names.items fork.others.keys c.in_ok-fork.ensures j long in
+    let there : n ≡ get_or set j n = name_at sets set other fork.at.0 fork.names.items fork.others.keys c.in_ok-fork.ensures j n long here in
+    c.in_err-common.ensures.below bound (name_below bound sets c.args.set.0 set j n h refl within there) (c.loop-i.invariant.below bound h)
+
+pub returns-then-is_empty-2-clause-puts : goal.returns-then-is_empty-2-clause-puts
+returns-then-is_empty-2-clause-puts c =
+    let none : set_at c.args.self.now c.args.other.0 ≡ [] = c.if-is_empty-2.ensures refl in (
+      grows_same c.args.self.now,
+      c.requires.other,
+      none ∙ sym (ap (in_both (set_at c.args.self.now c.args.set.0)) none ∙ both_none (set_at c.args.self.now c.args.set.0)),
+    )

@@ -1,7 +1,7 @@
 use Rattle.std.proofs.Common.{subst}
 use Rattle.cr_preproc.specs.Falling.{TurnFalls}
 use Rattle.cr_preproc.specs.Preprocs.{IsTurn}
-use Rattle.cr_preproc.proofs.UnitSteps.{silent_turn, ends_answer, turn_answer, going_is, room_is}
+use Rattle.cr_preproc.proofs.UnitSteps.{silent_turn, ends_answer, turn_answer, going_is}
 use Rattle.cr_preproc.proofs.preproc.Preproc.go.Goals as goal
 
 pub returns-in-Some-clause-step : goal.returns-in-Some-clause-step
@@ -19,8 +19,11 @@ turns-preserved c = record {
   silent =
       silent_turn c.args.snapshot.now c.args.self.now c.turns.self c.turn.new.self (going_is c.args.snapshot.now c.args.self.now c.requires.going c.requires.good.sound).0 c.turns.invariant.silent
       (subst (IsTurn c.args.snapshot.now c.turns.self c.turn.new.self) c.in-Ok-None.field-0-is c.in-Ok-None.ensures.turn) c.in_default.is;
-  room = room_is c.turn.new.self.progress.names c.turn.new.self.ending c.in_default.is c.in-Ok-None.ensures.room;
+  room = c.in-Ok-None.ensures.room;
 }
 
 pub turns-smaller : goal.turns-smaller
 turns-smaller c = (subst (TurnFalls c.turns.self c.turn.new.self) c.in-Ok-None.field-0-is c.in-Ok-None.ensures.falls) c.in_default.is
+
+pub returns-clause-good : goal.returns-clause-good
+returns-clause-good c = c.run_out.ensures.good c.args.snapshot.now
