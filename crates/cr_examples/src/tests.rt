@@ -158,9 +158,9 @@ fn ended(
     alloc: Global,
     snapshot: &Snapshot,
     words: &[u8],
-) -> Result<(Preproc, Vec<u8>), OutOfMemory> {
+) -> Result<(Box<Preproc>, Vec<u8>), OutOfMemory> {
     let unit = the_unit(alloc, words)?;
-    let mut preproc = Preproc::new(alloc, &unit, b"old", b"new")?;
+    let mut preproc = Box::new(alloc, Preproc::new(alloc, &unit, b"old", b"new")?)?;
     let end = run_of(snapshot, &mut preproc)?;
     let mut out = Vec::new(alloc);
     put_end(alloc, &mut out, &end)?;
@@ -184,36 +184,32 @@ fn traced(alloc: Global, files: Files) -> Result<Vec<u8>, OutOfMemory> {
     Ok(out)
 }
 
-// The text of a file that includes the file of this number.
-fn including(alloc: Global, number: u32) -> Result<Vec<u8>, OutOfMemory> {
-    let line = format!(in alloc; "#include \"{}.h\"\n", number)?;
-    Ok(line.as_bytes().to_vec(alloc)?)
+// The path of a file in a chain, of which the first is the main file.
+fn link_path(alloc: Global, number: u32) -> Result<PathText, OutOfMemory> {
+    if number == 0 {
+        return named_path(alloc, b"a.c");
+    }
+    let path = format!(in alloc; "{}.h", number)?;
+    named_path(alloc, path.as_bytes())
+}
+
+// The text of a file in a chain of so many includes.
+fn link_text(alloc: Global, number: u32, levels: u32) -> Result<Vec<u8>, OutOfMemory> {
+    if number < levels {
+        let line = format!(in alloc; "#include \"{}.h\"\n", number + 1)?;
+        Ok(line.as_bytes().to_vec(alloc)?)
+    } else {
+        Ok(b"x\n".to_vec(alloc)?)
+    }
 }
 
 // A chain of files, of which each includes the next one and the last is `x`.
 fn chain(alloc: Global, levels: u32) -> Result<Snapshot, OutOfMemory> {
     let mut snapshot = with_words(alloc, b"")?;
-    know(
-        &mut snapshot,
-        named_path(alloc, b"a.c")?,
-        Some(including(alloc, 1)?),
-    )?;
-    for k in 1..levels {
-        let path = format!(in alloc; "{}.h", k)?;
-        let text = including(alloc, k + 1)?;
-        know(
-            &mut snapshot,
-            named_path(alloc, path.as_bytes())?,
-            Some(text),
-        )?;
+    for number in 0..=levels {
+        let text = link_text(alloc, number, levels)?;
+        know(&mut snapshot, link_path(alloc, number)?, Some(text))?;
     }
-    let path = format!(in alloc; "{}.h", levels)?;
-    let text = b"x\n".to_vec(alloc)?;
-    know(
-        &mut snapshot,
-        named_path(alloc, path.as_bytes())?,
-        Some(text),
-    )?;
     Ok(snapshot)
 }
 
@@ -221,7 +217,7 @@ fn chain(alloc: Global, levels: u32) -> Result<Snapshot, OutOfMemory> {
 fn chained(alloc: Global, levels: u32) -> Result<Vec<u8>, OutOfMemory> {
     let snapshot = chain(alloc, levels)?;
     let (preproc, mut out) = ended(alloc, &snapshot, b"")?;
-    let (names, tokens, _) = preproc.into_parts();
+    let (names, tokens, _) = Box::into_inner(preproc).into_parts();
     put_tokens(&mut out, &names, &tokens)?;
     Ok(out)
 }
