@@ -1,0 +1,12 @@
+pub mod Actions
+pub mod Binding
+pub mod Declaring
+pub mod Entities
+pub mod Expressions
+pub mod Initialising
+pub mod RecordMembers
+pub mod Scoping
+pub mod Source
+pub mod Specifying
+pub mod State
+pub mod Tags
