@@ -1,6 +1,6 @@
 -- Texts of C, read to trees for the worked examples: each is cut into tokens, and parsed while it is bound, so that asks are
 -- answered by what is declared.
-use Rattle.std.specs.Prelude.{ℕ, zero, suc, ◌+◌, Bool, true, false, ◌&&◌, ◌||◌, ◌==◌, nat_le, if◌then◌else◌, Option, Some, None, unwrap_or, option_map, List, [], ◌∷◌, ◌++◌, codes, bytes_eq, length, map, position}
+use Rattle.std.specs.Prelude.{ℕ, zero, suc, ◌+◌, Bool, true, false, ◌&&◌, ◌||◌, not, ◌==◌, nat_le, if◌then◌else◌, Option, Some, None, unwrap_or, option_map, List, [], ◌∷◌, ◌++◌, codes, bytes_eq, length, map, position}
 use Rattle.std.specs.List.{list_any, slice_split}
 use Rattle.cr_base.specs.declared.token.Name.{Name}
 use Rattle.cr_base.specs.declared.token.Tok.{Tok}
@@ -51,14 +51,37 @@ abbrev pub closed : ℕ → List ℕ → List Piece
 closed at [] = []
 closed at read = (at, read) ∷ []
 
--- what was read begins at an offset, and is a string literal while the flag is set
-abbrev pub pieces : (at : ℕ) → (read : List ℕ) → Bool → List ℕ → List Piece
-pieces at read quoted [] = closed at read
-pieces at read true (b ∷ bs) = pieces at (read ++ b ∷ []) (if b == 34 then false else true) bs
-pieces at read false (b ∷ bs) =
-    if b == 32
-    then closed at read ++ pieces (at + length read + 1) [] false bs
-    else (if joins read b then pieces at (read ++ b ∷ []) false bs else closed at read ++ pieces (at + length read) (b ∷ []) (b == 34) bs)
+-- the pieces that ended, and what was read since: it begins at an offset, and may be a string literal that isn't closed
+pub record Scan : Type 0 where
+  pub ended : List Piece
+  pub at : ℕ
+  pub read : List ℕ
+  pub quoted : Bool
+
+abbrev pub pieces : Scan → List Piece
+pieces c = c.ended ++ closed c.at c.read
+
+abbrev pub longer : Scan → ℕ → Bool → Scan
+longer c b quoted = record { ended = c.ended; at = c.at; read = c.read ++ b ∷ []; quoted = quoted }
+
+abbrev pub next_piece : Scan → List ℕ → Bool → Scan
+next_piece c read quoted = record { ended = pieces c; at = c.at + length c.read; read = read; quoted = quoted }
+
+abbrev pub behind_blank : Scan → Scan
+behind_blank c = record { ended = c.ended; at = c.at + 1; read = []; quoted = false }
+
+abbrev pub scanned_by : (quoted blank joined : Bool) → ℕ → Scan → Scan
+scanned_by true blank joined b c = longer c b (not (b == 34))
+scanned_by false true joined b c = behind_blank (next_piece c [] false)
+scanned_by false false true b c = longer c b false
+scanned_by false false false b c = next_piece c (b ∷ []) (b == 34)
+
+abbrev pub scan : Scan → List ℕ → Scan
+scan c [] = c
+scan c (b ∷ bs) = scan (scanned_by c.quoted (b == 32) (joins c.read b) b c) bs
+
+abbrev pub pieces_of : List ℕ → List Piece
+pieces_of text = pieces (scan (record { ended = []; at = 0; read = []; quoted = false }) text)
 
 abbrev pub keywords : List (List ℕ)
 keywords =
@@ -90,7 +113,7 @@ abbrev pub source_by : List Piece → Source
 source_by xs = source_of xs (map {A = Piece} (λ x. x.1) xs)
 
 abbrev pub source : List ℕ → Source
-source text = source_by (with_end (pieces 0 [] false text))
+source text = source_by (with_end (pieces_of text))
 
 -- ---- trees
 

@@ -4,7 +4,9 @@ pub mod Declaring
 pub mod Entities
 pub mod Expressions
 pub mod Initialising
+pub mod Keys
 pub mod RecordMembers
+pub mod Resolution
 pub mod Scoping
 pub mod Source
 pub mod Specifying
