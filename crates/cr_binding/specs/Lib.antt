@@ -12,3 +12,6 @@ pub mod Source
 pub mod Specifying
 pub mod State
 pub mod Tags
+pub mod UnitConflicts
+pub mod UnitFacts
+pub mod WellFormed
