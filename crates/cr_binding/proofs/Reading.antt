@@ -1,6 +1,6 @@
 -- Texts of C, read to trees for the worked examples: each is cut into tokens, and parsed while it is bound, so that asks are
 -- answered by what is declared.
-use Rattle.std.specs.Prelude.{ℕ, zero, suc, ◌+◌, Bool, true, false, ◌&&◌, ◌||◌, not, ◌==◌, nat_le, if◌then◌else◌, Option, Some, None, unwrap_or, option_map, List, [], ◌∷◌, ◌++◌, codes, bytes_eq, length, map, position}
+use Rattle.std.specs.Prelude.{ℕ, zero, suc, ◌+◌, Bool, true, false, ◌&&◌, ◌||◌, not, ◌==◌, nat_le, if◌then◌else◌, Option, Some, None, unwrap_or, List, [], ◌∷◌, ◌++◌, codes, bytes_eq, length, map, position}
 use Rattle.std.specs.List.{list_any, slice_split}
 use Rattle.cr_base.specs.declared.token.Name.{Name}
 use Rattle.cr_base.specs.declared.token.Tok.{Tok}
@@ -85,7 +85,7 @@ pieces_of text = pieces (scan (record { ended = []; at = 0; read = []; quoted = 
 
 abbrev pub keywords : List (List ℕ)
 keywords =
-    slice_split (λ b. b == 32) (codes "auto break case char const continue default do double else enum extern float for goto if inline int long register return short signed sizeof static struct switch typedef union unsigned void volatile while _Atomic _Complex _Generic _Static_assert __attribute__ __builtin_offsetof __builtin_va_arg")
+    slice_split (λ b. b == 32) (codes "auto break case char const continue default do double else enum extern float for goto if inline int long register return short signed sizeof static struct switch typedef union unsigned void volatile while _Alignof _Atomic _Complex _Generic _Static_assert __attribute__ __builtin_offsetof __builtin_va_arg")
 
 abbrev pub kind_of : List ℕ → TokKind
 kind_of [] = kind.End

@@ -1,6 +1,6 @@
 -- What tells an entity from those of all translation units: equal keys are one entity (C11 6.2.2; that tags of file scope are
 -- one in all units is our own rule).
-use Rattle.std.specs.Prelude.{ℕ, Bool, true, false, ◌&&◌, ◌==◌, if◌then◌else◌, Option, Some, None, List, slice_get}
+use Rattle.std.specs.Prelude.{ℕ, Bool, true, false, ◌&&◌, ◌==◌, if◌then◌else◌, Option, Some, None, slice_get}
 use Rattle.std.specs.List.{find}
 use Rattle.std.specs.Option.{option_map_or}
 use Rattle.cr_base.specs.declared.Kind.{Kind}
@@ -17,7 +17,7 @@ use Rattle.cr_scope.specs.declared.Linkage.{Linkage}
 use Rattle.cr_scope.specs.declared.Linkage.TheVariants as linkage
 use Rattle.cr_scope.specs.Linkage.{is_file_scope}
 use Rattle.cr_binding.specs.Source.{Source, token_of, text_at}
-use Rattle.cr_binding.specs.State.{Declaration, Record, Member, State}
+use Rattle.cr_binding.specs.State.{Declaration, Member, State}
 use Rattle.cr_binding.specs.Entities.{is_tag, first_token}
 use Rattle.cr_binding.specs.Resolution.{Thing, Declared, InRecord, BuiltIn}
 

@@ -1,5 +1,5 @@
 -- What each identifier of a unit means: the entity, and the token that declares it first.
-use Rattle.std.specs.Prelude.{ℕ, Bool, ◌==◌, Option, Some, None, List, [], ◌∷◌, ◌++◌, filter, map, flat_map, slice_get}
+use Rattle.std.specs.Prelude.{ℕ, ◌==◌, Option, Some, None, List, [], ◌∷◌, ◌++◌, filter, map, flat_map}
 use Rattle.std.specs.List.{find}
 use Rattle.cr_binding.specs.Source.{Source}
 use Rattle.cr_binding.specs.State.{Declaration, Member, Use, LookedUp, GoesTo, Selects, IsBuiltIn, State}
