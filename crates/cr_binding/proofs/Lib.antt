@@ -1,2 +1,3 @@
+mod FactRows
 mod Reading
 mod Rows

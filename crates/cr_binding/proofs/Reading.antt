@@ -78,7 +78,7 @@ scanned_by false false false b c = next_piece c (b ∷ []) (b == 34)
 
 abbrev pub scan : Scan → List ℕ → Scan
 scan c [] = c
-scan c (b ∷ bs) = scan (scanned_by c.quoted (b == 32) (joins c.read b) b c) bs
+scan c (b ∷ bs) = scan (scanned_by c.quoted (b == 32 || b == 10) (joins c.read b) b c) bs
 
 abbrev pub pieces_of : List ℕ → List Piece
 pieces_of text = pieces (scan (record { ended = []; at = 0; read = []; quoted = false }) text)
