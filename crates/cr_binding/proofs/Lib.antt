@@ -1,3 +1,4 @@
 mod FactRows
 mod Reading
 mod Rows
+mod Staying

@@ -1,5 +1,6 @@
 pub mod Actions
 pub mod Binding
+pub mod BindingStays
 pub mod Declaring
 pub mod Entities
 pub mod Expressions

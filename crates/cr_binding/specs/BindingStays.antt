@@ -1,0 +1,127 @@
+-- When two spellings of a unit bind alike: each action reads the same of the names.
+use Rattle.std.specs.Prelude.{◌≡◌, ℕ, Bool, true, ◌&&◌, Option, Some, None, unwrap_or, List, [], ◌∷◌, map}
+use Rattle.std.specs.List.{list_any}
+use Rattle.cr_grammar.specs.declared.symbols.NonTerm.{NonTerm}
+use Rattle.cr_grammar.specs.declared.symbols.NonTerm.TheVariants as n
+use Rattle.cr_grammar.specs.declared.symbols.Action.{Action}
+use Rattle.cr_grammar.specs.declared.symbols.Action.TheVariants as a
+use Rattle.cr_ll.specs.Derivation.{Trees, none, token, action, node}
+use Rattle.cr_scope.specs.declared.Space.{Space}
+use Rattle.cr_scope.specs.declared.Space.TheVariants as space
+use Rattle.cr_scope.specs.Redeclaration.{clashes}
+use Rattle.cr_typing.specs.Initialisers.{starts_from}
+use Rattle.cr_binding.specs.Source.{Source, token_of, name_at, text_at, is_identifier, is_built_in}
+use Rattle.cr_binding.specs.State.{Declaration, Member, Target, Whole, Within, State, start}
+use Rattle.cr_binding.specs.Entities.{entry}
+use Rattle.cr_binding.specs.Declaring.{meaning_here, declaration_at}
+use Rattle.cr_binding.specs.Specifying.{specifier_at, specified_type, declared_type}
+use Rattle.cr_binding.specs.Tags.{tag_here, record_of}
+use Rattle.cr_binding.specs.RecordMembers.{select, repeated, named_member, brought_in}
+use Rattle.cr_binding.specs.Expressions.{operand, is_function_name}
+use Rattle.cr_binding.specs.Initialising.{dotted}
+use Rattle.cr_binding.specs.Scoping.{unless_failed}
+use Rattle.cr_binding.specs.Actions.{passed, acted}
+use Rattle.cr_binding.specs.Binding.{ended, goes_on, asked, walk, bound}
+
+-- u has the tokens of t, of the same kinds, with the same words of specifiers among them
+pub record AreWordsAlike (t u : Source) : Type 0 where
+  pub kinds : (i : ℕ) → (token_of u i).kind ≡ (token_of t i).kind
+  pub words : (i : ℕ) → specifier_at u i ≡ specifier_at t i
+
+-- What one action reads, in the state s of t.
+module _ (t u : Source) (s : State) where
+  -- a token's spelling means the same declaration
+  abbrev pub MeansAlike : Space → ℕ → Type 0
+  MeansAlike sp i = meaning_here u sp i s ≡ meaning_here t sp i s
+
+  abbrev pub is_refused : Source → Declaration → Bool
+  is_refused v d = list_any (clashes (entry v d)) (map (entry v) s.declarations)
+
+  -- a declaration at a token may stand beside the others, or may not
+  abbrev pub DeclaresAlike : ℕ → Type 0
+  DeclaresAlike i = (d : Declaration) → d.token ≡ i → is_refused u d ≡ is_refused t d
+
+  -- an identifier of an expression: what isn't declared is supplied by the compiler, or isn't
+  pub record MentionsAlike (i : ℕ) : Type 0 where
+    pub means : MeansAlike space.Ordinary i
+    pub own : (s.in_body && is_function_name (text_at u i)) ≡ (s.in_body && is_function_name (text_at t i))
+    pub supplied : declaration_at s (meaning_here t space.Ordinary i s) ≡ None → is_built_in (text_at u i) ≡ is_built_in (text_at t i)
+
+  pub record NamesATagAlike (i : ℕ) : Type 0 where
+    pub here : tag_here u i s ≡ tag_here t i s
+    pub declares : DeclaresAlike i
+
+  pub record UsesATagAlike (i : ℕ) : Type 0 where
+    pub means : MeansAlike space.Tag i
+    pub declares : declaration_at s (meaning_here t space.Tag i s) ≡ None → DeclaresAlike i
+
+  abbrev pub DeclaresPending : Option ℕ → Type 0
+  DeclaresPending None = Unit {0}
+  DeclaresPending (Some i) = DeclaresAlike i
+
+  abbrev pub SeesPending : Option ℕ → Type 0
+  SeesPending None = Unit {0}
+  SeesPending (Some i) = MeansAlike space.Ordinary i × DeclaresAlike i
+
+  -- new names select in a record beside the others, or may not
+  abbrev pub AddsAlike : ℕ → List Member → Type 0
+  AddsAlike r new = repeated u s r new ≡ repeated t s r new
+
+  abbrev pub AddsPending : Option ℕ → Option ℕ → Type 0
+  AddsPending (Some r) (Some i) = AddsAlike r (named_member r i (declared_type s) s ∷ [])
+  AddsPending _ _ = Unit {0}
+
+  abbrev pub BringsAlike : Option ℕ → Option ℕ → Type 0
+  BringsAlike (Some r) (Some q) = AddsAlike r (brought_in r q s)
+  BringsAlike _ _ = Unit {0}
+
+  -- a name selects the same member of the operand
+  abbrev pub SelectsAlike : ℕ → Type 0
+  SelectsAlike i = (arrow : Bool) → select u s arrow (name_at u i) (operand s) ≡ select t s arrow (name_at t i) (operand s)
+
+  abbrev pub DesignatesAlike : Target → ℕ → Type 0
+  DesignatesAlike (Whole c) i = Unit {0}
+  DesignatesAlike (Within b) i = dotted u s (name_at u i) (starts_from b) ≡ dotted t s (name_at t i) (starts_from b)
+
+  abbrev pub JumpAlike : List ℕ → Type 0
+  JumpAlike [] = Unit {0}
+  JumpAlike (i ∷ is) = MeansAlike space.Label i × JumpAlike is
+
+-- an action of a node, of which `first` is the first token
+abbrev pub IsAlike : Source → Source → NonTerm → ℕ → Action → State → Type 0
+IsAlike t u m first a.Spec s = is_identifier t first ≡ true → MeansAlike t u s space.Ordinary first
+IsAlike t u m first a.Declare s = SeesPending t u s s.pending.name
+IsAlike t u m first a.Param s = DeclaresPending t u s s.pending.name
+IsAlike t u m first a.Enumerator s = DeclaresAlike t u s first
+IsAlike t u m first a.TagDef s = NamesATagAlike t u s s.last
+IsAlike t u m first a.TagAlone s = NamesATagAlike t u s s.last
+IsAlike t u m first a.TagUse s = UsesATagAlike t u s s.last
+IsAlike t u m first a.Member s = AddsPending t u s s.filled s.pending.name
+IsAlike t u m first a.Splice s = BringsAlike t u s s.filled (record_of (specified_type s.pending))
+IsAlike t u m first a.Label s = DeclaresAlike t u s s.last
+IsAlike t u m first a.EndBody s = JumpAlike t u s s.jumps
+IsAlike t u m first a.Callee s = MentionsAlike t u s s.last
+IsAlike t u m first a.Mention s = MentionsAlike t u s s.last
+IsAlike t u m first a.Op s = text_at u first ≡ text_at t first
+IsAlike t u m first a.Select s = (text_at u first ≡ text_at t first) × SelectsAlike t u s s.last
+IsAlike t u m first a.OffMember s = SelectsAlike t u s s.last
+IsAlike t u m first a.Desig s = DesignatesAlike t u s s.target s.last
+IsAlike t u m first _ s = Unit {0}
+
+-- something holds at each action of a walk: of its node, the first token of that, the action, and the state before it
+abbrev pub Along : (NonTerm → ℕ → Action → State → Type 0) → Source → NonTerm → Option ℕ → Trees → State → Type 0
+Along P t m first none s = Unit {0}
+Along P t m first (token i next) s = Along P t m (Some (unwrap_or first i)) next (goes_on s (passed t m i s))
+Along P t m first (action x next) s =
+    P m (unwrap_or first s.last) x s × Along P t m first next (goes_on s (acted t m (unwrap_or first s.last) x s))
+Along P t m first (node k asks children next) s =
+    Along P t k None children (asked asks s)
+    × Along P t m first next (unless_failed s (ended m k children s (walk t k None children (asked asks s))))
+
+-- Where no action reads anything else of the names, all is bound as it was: declarations, uses, members and the fault.
+abbrev pub BindingStays : Type 0
+BindingStays =
+    (t u : Source) (tree : Trees)
+    → AreWordsAlike t u
+    → Along (IsAlike t u) t n.Unit None tree start
+    → bound u tree ≡ bound t tree
