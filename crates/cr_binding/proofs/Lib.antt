@@ -2,3 +2,4 @@ mod FactRows
 mod Reading
 mod Rows
 mod Staying
+mod Stepping

@@ -12,6 +12,7 @@ pub mod Scoping
 pub mod Source
 pub mod Specifying
 pub mod State
+pub mod Steps
 pub mod Tags
 pub mod UnitConflicts
 pub mod UnitFacts
