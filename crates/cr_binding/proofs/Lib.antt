@@ -1,4 +1,5 @@
 mod FactRows
+mod Growing
 mod Reading
 mod Rows
 mod Staying

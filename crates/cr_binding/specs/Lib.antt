@@ -1,5 +1,6 @@
 pub mod Actions
 pub mod Binding
+pub mod BindingGrows
 pub mod BindingStays
 pub mod Declaring
 pub mod Entities

@@ -2,6 +2,7 @@
 //! the keys and facts that follow, and a law over it.
 #![tactic(auto)]
 
+ghost use Rattle.cr_binding.specs.BindingGrows.{BindingGrows, FaultStays};
 ghost use Rattle.cr_binding.specs.BindingStays.{BindingStays};
 ghost use Rattle.cr_binding.specs.Steps.{StepsBind, StepsAreEvents};
 
@@ -16,4 +17,11 @@ pub fn binding_stays()
 pub fn steps_bind()
     ensures binds { StepsBind }
     ensures events { StepsAreEvents }
+{}
+
+/// The lists of a unit only grow while it is bound, and a fault stays the first one. It does nothing: its contract is
+/// the law.
+pub fn binding_grows()
+    ensures lists { BindingGrows }
+    ensures fault { FaultStays }
 {}
