@@ -26,20 +26,20 @@ use Rattle.cr_binding.specs.Declaring.{failed, used, declare, declaration, decla
 use Rattle.cr_binding.specs.Specifying.{specifier_at, specified, announced, based, named_type, typedef_name, specified_by, type_specifier, specified_type, declared_type}
 use Rattle.cr_binding.specs.Tags.{is_record_kind, is_union_kind, new_type, record_of, tag_here, declare_tag, tag_again, tag_alone, filling, completing, tag_definition, used_tag, tag_use}
 use Rattle.cr_binding.specs.RecordMembers.{least_token, write_unless, write, named_member, add_member, brought_in, add_anonymous, splice}
-use Rattle.cr_binding.specs.Expressions.{push, operand, operated, is_function_name, built_in, denoting, identifier, selecting, selection, is_arrow}
+use Rattle.cr_binding.specs.Expressions.{push, operand, is_function_name, built_in, denoting, identifier, selecting, selection, is_arrow}
 use Rattle.cr_binding.specs.Initialising.{Value, StringValue, leaves, is_string, item_within, value_ended, designating, designator}
 use Rattle.cr_binding.specs.Scoping.{left, unless_failed, jump_to, all_jumps}
 use Rattle.cr_binding.specs.Actions.{passed, acted}
 use Rattle.cr_binding.specs.Binding.{ended, goes_on, asked, walk}
-use Rattle.cr_binding.specs.BindingStays.{AreWordsAlike, MeansAlike, DeclaresAlike, MentionsAlike, NamesATagAlike, UsesATagAlike, DeclaresPending, SeesPending, AddsAlike, AddsPending, BringsAlike, SelectsAlike, DesignatesAlike, JumpAlike, IsAlike, Along, BindingStays}
+use Rattle.cr_binding.specs.BindingStays.{AreWordsAlike, is_refused, MeansAlike, DeclaresAlike, MentionsAlike, NamesATagAlike, UsesATagAlike, DeclaresPending, SeesPending, AddsAlike, AddsPending, BringsAlike, SelectsAlike, DesignatesAlike, JumpAlike, IsAlike, Along, BindingStays}
 
 module _ (t u : Source) where
   -- ---- declarations
 
-  declare_alike : (d : Declaration) (s : State) → DeclaresAlike t u s d.token → declare u d s ≡ declare t d s
-  declare_alike d s h = ap (λ b. if b then failed cause.Redeclared d.token s else record s { declarations = s.declarations ++ d ∷ [] }) (h d refl)
+  declare_alike : (d : Declaration) (s : State) → is_refused t u s u d ≡ is_refused t u s t d → declare u d s ≡ declare t d s
+  declare_alike d s h = ap (λ b. if b then failed cause.Redeclared d.token s else record s { declarations = s.declarations ++ d ∷ [] }) h
 
-  plain_alike : (sp : Space) (k : Kind) (i : ℕ) (c : CType) (s : State) → DeclaresAlike t u s i → declare_plain u sp k i c s ≡ declare_plain t sp k i c s
+  plain_alike : (sp : Space) (k : Kind) (i : ℕ) (c : CType) (s : State) → DeclaresAlike t u s sp k linkage.None i → declare_plain u sp k i c s ≡ declare_plain t sp k i c s
   plain_alike sp k i c s h = declare_alike (declaration sp k linkage.None i c s) s h
 
   seen_alike : (seen : Option Declaration) → scopes.linkage_seen (option_map (entry u) seen) ≡ scopes.linkage_seen (option_map (entry t) seen)
@@ -68,19 +68,20 @@ module _ (t u : Source) where
   linkage_alike seen kind.Member s = of_kind_alike seen kind.Member s
   linkage_alike seen kind.Label s = of_kind_alike seen kind.Label s
 
-  if_seen_alike : (b : Bool) (d : Declaration) (i : ℕ) (k : Option ℕ) (s : State) → DeclaresAlike t u s d.token → declare u d (if b then looked_up space.Ordinary i k s else s) ≡ declare t d (if b then looked_up space.Ordinary i k s else s)
+  if_seen_alike : (b : Bool) (d : Declaration) (i : ℕ) (k : Option ℕ) (s : State) → is_refused t u s u d ≡ is_refused t u s t d → declare u d (if b then looked_up space.Ordinary i k s else s) ≡ declare t d (if b then looked_up space.Ordinary i k s else s)
   if_seen_alike true d i k s h = declare_alike d (looked_up space.Ordinary i k s) h
   if_seen_alike false d i k s h = declare_alike d s h
 
-  declare_as_alike : (k : Option ℕ) (what : Kind) (i : ℕ) (c : CType) (s : State) → DeclaresAlike t u s i → declare_as u k what i c s ≡ declare_as t k what i c s
+  declare_as_alike : (k : Option ℕ) (what : Kind) (i : ℕ) (c : CType) (s : State) → DeclaresAlike t u s space.Ordinary what (linkage_for t (declaration_at s k) what s) i → declare_as u k what i c s ≡ declare_as t k what i c s
   declare_as_alike k what i c s h =
       let l = linkage_for t (declaration_at s k) what s in
       ap (λ l. declare u (declaration space.Ordinary what l i c s) (linkage_seen l i k s)) (linkage_alike (declaration_at s k) what s)
       ∙ if_seen_alike (is_internal l && not (has_word word.Static s)) (declaration space.Ordinary what l i c s) i k s h
 
-  named_alike : (i : Option ℕ) (c : CType) (s : State) → SeesPending t u s i → declare_named u i c s ≡ declare_named t i c s
-  named_alike None c s h = refl
-  named_alike (Some i) c s h =
+  named_alike : (i : Option ℕ) (s : State) → SeesPending t u s i → declare_named u i (declared_type s) s ≡ declare_named t i (declared_type s) s
+  named_alike None s h = refl
+  named_alike (Some i) s h =
+      let c = declared_type s in
       ap (λ k. declare_as u k (kind_of c s) i c s) h.0
       ∙ declare_as_alike (meaning_here t space.Ordinary i s) (kind_of c s) i c s h.1
 
@@ -105,11 +106,11 @@ module _ (t u : Source) where
 
   -- ---- tags
 
-  new_tag_alike : (b : Bool) (xs : List Record) (i : ℕ) (c : CType) (s : State) → DeclaresAlike t u s i → declare_tag u i c (if b then record s { records = xs } else s) ≡ declare_tag t i c (if b then record s { records = xs } else s)
+  new_tag_alike : (b : Bool) (xs : List Record) (i : ℕ) (c : CType) (s : State) → DeclaresAlike t u s space.Tag s.keyword linkage.None i → declare_tag u i c (if b then record s { records = xs } else s) ≡ declare_tag t i c (if b then record s { records = xs } else s)
   new_tag_alike true xs i c s h = ap (based c) (plain_alike space.Tag s.keyword i c (record s { records = xs }) h)
   new_tag_alike false xs i c s h = ap (based c) (plain_alike space.Tag s.keyword i c s h)
 
-  again_alike : (d : Option Declaration) (i : ℕ) (s : State) → DeclaresAlike t u s i → tag_again d u i s ≡ tag_again d t i s
+  again_alike : (d : Option Declaration) (i : ℕ) (s : State) → DeclaresAlike t u s space.Tag s.keyword linkage.None i → tag_again d u i s ≡ tag_again d t i s
   again_alike None i s h =
       new_tag_alike (is_record_kind s.keyword) (s.records ++ (record { token = i; is_union = is_union_kind s.keyword }) ∷ []) i (new_type s) s h
   again_alike (Some d) i s h = ap (based d.type) (plain_alike space.Tag s.keyword i d.type s h)
@@ -125,7 +126,7 @@ module _ (t u : Source) where
   definition_alike i s h =
       ap (λ d. completed_by i s d (tag_alone u i s)) h.here ∙ ap (λ x. completed_by i s (tag_here t i s) x) (alone_alike i s h)
 
-  used_alike : (k : Option ℕ) (d : Option Declaration) (i : ℕ) (s : State) → (d ≡ None → DeclaresAlike t u s i) → used_tag k d u i s ≡ used_tag k d t i s
+  used_alike : (k : Option ℕ) (d : Option Declaration) (i : ℕ) (s : State) → (d ≡ None → DeclaresAlike t u s space.Tag s.keyword linkage.None i) → used_tag k d u i s ≡ used_tag k d t i s
   used_alike k None i s h = again_alike None i (looked_up space.Tag i None s) (h refl)
   used_alike k (Some d) i s h = refl
 
@@ -217,7 +218,7 @@ module _ (t u : Source) where
 
   acted_alike : AreWordsAlike t u → (m : NonTerm) (first : ℕ) (x : Action) (s : State) → IsAlike t u m first x s → acted u m first x s ≡ acted t m first x s
   acted_alike w m first a.Spec s h = specifier_alike w first s h
-  acted_alike w m first a.Declare s h = named_alike s.pending.name (declared_type s) s h
+  acted_alike w m first a.Declare s h = named_alike s.pending.name s h
   acted_alike w m first a.Param s h = parameter_alike s.pending.name (declared_type s) s h
   acted_alike w m first a.Enumerator s h = plain_alike space.Ordinary kind.Enumerator first Arith s h
   acted_alike w m first a.TagDef s h = definition_alike s.last s h
@@ -230,9 +231,9 @@ module _ (t u : Source) where
   acted_alike w m first a.Callee s h = identifier_alike true s.last s h
   acted_alike w m first a.Mention s h = identifier_alike false s.last s h
   acted_alike w m first a.Value s h = ap (λ k. push (if is_string_kind k then Arr Arith else Arith) s) (w.kinds s.last)
-  acted_alike w m first a.Op s h = ap (λ x. record s { values = operated m x s.values }) h
+  acted_alike w m first a.Op s h = ap (λ cs. record s { values = cs }) (h s.values)
   acted_alike w m first a.Select s h =
-      ap (λ x. selection (is_arrow x) u s.last s) h.0 ∙ selection_alike (is_arrow (text_at t first)) s.last s h.1
+      ap (λ b. selection b u s.last s) h.0 ∙ selection_alike (is_arrow (text_at t first)) s.last s h.1
   acted_alike w m first a.OffMember s h = selection_alike false s.last s h
   acted_alike w m first a.Item s h = value_alike w s
   acted_alike w m first a.Desig s h = designator_alike s.target s.last s h

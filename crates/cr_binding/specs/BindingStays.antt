@@ -8,16 +8,21 @@ use Rattle.cr_grammar.specs.declared.symbols.Action.TheVariants as a
 use Rattle.cr_ll.specs.Derivation.{Trees, none, token, action, node}
 use Rattle.cr_scope.specs.declared.Space.{Space}
 use Rattle.cr_scope.specs.declared.Space.TheVariants as space
+use Rattle.cr_scope.specs.declared.Linkage.{Linkage}
+use Rattle.cr_scope.specs.declared.Linkage.TheVariants as linkage
 use Rattle.cr_scope.specs.Redeclaration.{clashes}
+use Rattle.cr_types.specs.Types.{CType, Void}
+use Rattle.cr_base.specs.declared.Kind.{Kind}
+use Rattle.cr_base.specs.declared.Kind.TheVariants as kind
 use Rattle.cr_typing.specs.Initialisers.{starts_from}
 use Rattle.cr_binding.specs.Source.{Source, token_of, name_at, text_at, is_identifier, is_built_in}
 use Rattle.cr_binding.specs.State.{Declaration, Member, Target, Whole, Within, State, start}
 use Rattle.cr_binding.specs.Entities.{entry}
-use Rattle.cr_binding.specs.Declaring.{meaning_here, declaration_at}
+use Rattle.cr_binding.specs.Declaring.{declaration, meaning_here, declaration_at, kind_of, linkage_for}
 use Rattle.cr_binding.specs.Specifying.{specifier_at, specified_type, declared_type}
 use Rattle.cr_binding.specs.Tags.{tag_here, record_of}
 use Rattle.cr_binding.specs.RecordMembers.{select, repeated, named_member, brought_in}
-use Rattle.cr_binding.specs.Expressions.{operand, is_function_name}
+use Rattle.cr_binding.specs.Expressions.{operand, operated, is_arrow, is_function_name}
 use Rattle.cr_binding.specs.Initialising.{dotted}
 use Rattle.cr_binding.specs.Scoping.{unless_failed}
 use Rattle.cr_binding.specs.Actions.{passed, acted}
@@ -37,9 +42,9 @@ module _ (t u : Source) (s : State) where
   abbrev pub is_refused : Source → Declaration → Bool
   is_refused v d = list_any (clashes (entry v d)) (map (entry v) s.declarations)
 
-  -- a declaration at a token may stand beside the others, or may not
-  abbrev pub DeclaresAlike : ℕ → Type 0
-  DeclaresAlike i = (d : Declaration) → d.token ≡ i → is_refused u d ≡ is_refused t d
+  -- A declaration at a token may stand beside the others, or may not. Its type has no part in that.
+  abbrev pub DeclaresAlike : Space → Kind → Linkage → ℕ → Type 0
+  DeclaresAlike sp k l i = let d = declaration sp k l i Void s in is_refused u d ≡ is_refused t d
 
   -- an identifier of an expression: what isn't declared is supplied by the compiler, or isn't
   pub record MentionsAlike (i : ℕ) : Type 0 where
@@ -49,19 +54,25 @@ module _ (t u : Source) (s : State) where
 
   pub record NamesATagAlike (i : ℕ) : Type 0 where
     pub here : tag_here u i s ≡ tag_here t i s
-    pub declares : DeclaresAlike i
+    pub declares : DeclaresAlike space.Tag s.keyword linkage.None i
 
   pub record UsesATagAlike (i : ℕ) : Type 0 where
     pub means : MeansAlike space.Tag i
-    pub declares : declaration_at s (meaning_here t space.Tag i s) ≡ None → DeclaresAlike i
+    pub declares : declaration_at s (meaning_here t space.Tag i s) ≡ None → DeclaresAlike space.Tag s.keyword linkage.None i
 
+  -- a parameter
   abbrev pub DeclaresPending : Option ℕ → Type 0
   DeclaresPending None = Unit {0}
-  DeclaresPending (Some i) = DeclaresAlike i
+  DeclaresPending (Some i) = DeclaresAlike space.Ordinary kind.Object linkage.None i
+
+  -- an object, a function or a typedef name, which takes its linkage from what it sees
+  abbrev pub pending_linkage : ℕ → Linkage
+  pending_linkage i = linkage_for t (declaration_at s (meaning_here t space.Ordinary i s)) (kind_of (declared_type s) s) s
 
   abbrev pub SeesPending : Option ℕ → Type 0
   SeesPending None = Unit {0}
-  SeesPending (Some i) = MeansAlike space.Ordinary i × DeclaresAlike i
+  SeesPending (Some i) =
+      MeansAlike space.Ordinary i × DeclaresAlike space.Ordinary (kind_of (declared_type s) s) (pending_linkage i) i
 
   -- new names select in a record beside the others, or may not
   abbrev pub AddsAlike : ℕ → List Member → Type 0
@@ -79,6 +90,10 @@ module _ (t u : Source) (s : State) where
   abbrev pub SelectsAlike : ℕ → Type 0
   SelectsAlike i = (arrow : Bool) → select u s arrow (name_at u i) (operand s) ≡ select t s arrow (name_at t i) (operand s)
 
+  -- the operator is the same one
+  abbrev pub OperatesAlike : NonTerm → ℕ → Type 0
+  OperatesAlike m first = (cs : List CType) → operated m (text_at u first) cs ≡ operated m (text_at t first) cs
+
   abbrev pub DesignatesAlike : Target → ℕ → Type 0
   DesignatesAlike (Whole c) i = Unit {0}
   DesignatesAlike (Within b) i = dotted u s (name_at u i) (starts_from b) ≡ dotted t s (name_at t i) (starts_from b)
@@ -92,18 +107,18 @@ abbrev pub IsAlike : Source → Source → NonTerm → ℕ → Action → State 
 IsAlike t u m first a.Spec s = is_identifier t first ≡ true → MeansAlike t u s space.Ordinary first
 IsAlike t u m first a.Declare s = SeesPending t u s s.pending.name
 IsAlike t u m first a.Param s = DeclaresPending t u s s.pending.name
-IsAlike t u m first a.Enumerator s = DeclaresAlike t u s first
+IsAlike t u m first a.Enumerator s = DeclaresAlike t u s space.Ordinary kind.Enumerator linkage.None first
 IsAlike t u m first a.TagDef s = NamesATagAlike t u s s.last
 IsAlike t u m first a.TagAlone s = NamesATagAlike t u s s.last
 IsAlike t u m first a.TagUse s = UsesATagAlike t u s s.last
 IsAlike t u m first a.Member s = AddsPending t u s s.filled s.pending.name
 IsAlike t u m first a.Splice s = BringsAlike t u s s.filled (record_of (specified_type s.pending))
-IsAlike t u m first a.Label s = DeclaresAlike t u s s.last
+IsAlike t u m first a.Label s = DeclaresAlike t u s space.Label kind.Label linkage.None s.last
 IsAlike t u m first a.EndBody s = JumpAlike t u s s.jumps
 IsAlike t u m first a.Callee s = MentionsAlike t u s s.last
 IsAlike t u m first a.Mention s = MentionsAlike t u s s.last
-IsAlike t u m first a.Op s = text_at u first ≡ text_at t first
-IsAlike t u m first a.Select s = (text_at u first ≡ text_at t first) × SelectsAlike t u s s.last
+IsAlike t u m first a.Op s = OperatesAlike t u s m first
+IsAlike t u m first a.Select s = (is_arrow (text_at u first) ≡ is_arrow (text_at t first)) × SelectsAlike t u s s.last
 IsAlike t u m first a.OffMember s = SelectsAlike t u s s.last
 IsAlike t u m first a.Desig s = DesignatesAlike t u s s.target s.last
 IsAlike t u m first _ s = Unit {0}
