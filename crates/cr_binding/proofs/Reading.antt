@@ -85,7 +85,7 @@ pieces_of text = pieces (scan (record { ended = []; at = 0; read = []; quoted = 
 
 abbrev pub keywords : List (List ℕ)
 keywords =
-    slice_split (λ b. b == 32) (codes "auto break case char const continue default do double else enum extern float for goto if inline int long register return short signed sizeof static struct switch typedef union unsigned void volatile while _Alignof _Atomic _Complex _Generic _Static_assert __attribute__ __builtin_offsetof __builtin_va_arg")
+    slice_split (λ b. b == 32) (codes "auto break case char const continue default do double else enum extern float for goto if inline int long register return short signed sizeof static struct switch typedef union unsigned void volatile while _Alignof _Atomic _Complex _Generic _Static_assert __attribute__ _Thread_local __builtin_offsetof __builtin_va_arg")
 
 abbrev pub kind_of : List ℕ → TokKind
 kind_of [] = kind.End

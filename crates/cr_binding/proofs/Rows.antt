@@ -234,6 +234,101 @@ names_elsewhere : means (codes "int bar;int f(void){int foo;{int bar;return foo;
 unfolding rule spelled permitted
 names_elsewhere = refl
 
+-- a tag that is completed in its own members (6.7.2.3p1)
+a_tag_in_its_own_definition : fault_of (codes "struct s{struct s{int x;}y;};") ≡ Some (cause.Redeclared, 16)
+unfolding rule spelled permitted
+a_tag_in_its_own_definition = refl
+
+-- two enumerators of one name (6.7p3)
+two_enumerators : fault_of (codes "enum a{A};enum b{A};") ≡ Some (cause.Redeclared, 17)
+unfolding rule spelled permitted
+two_enumerators = refl
+
+-- two labels of one name in a function (6.8.1p3)
+two_labels : fault_of (codes "void f(void){{l:;}l:;}") ≡ Some (cause.Redeclared, 18)
+unfolding rule spelled permitted
+two_labels = refl
+
+-- two members of one name (6.2.3)
+two_members : fault_of (codes "struct s{int a;int a;};") ≡ Some (cause.Redeclared, 19)
+unfolding rule spelled permitted
+two_members = refl
+
+-- a jump to no label is found at the end of its function
+a_fault_before_a_jump : fault_of (codes "void f(void){goto l;x;}") ≡ Some (cause.Unresolved, 20)
+unfolding rule spelled permitted
+a_fault_before_a_jump = refl
+
+-- a typedef name without a declarator declares no member
+a_typedef_name_is_no_member : fault_of (codes "typedef struct{int x;}T;struct a{T;int y;};int f(struct a*p){return p->x;}") ≡ Some (cause.NoMember, 71)
+unfolding rule spelled permitted
+a_typedef_name_is_no_member = refl
+
+-- two storage words (6.7.1p2)
+two_storage_words : fault_of (codes "typedef static int x;") ≡ Some (cause.BadSpecifiers, 8)
+unfolding rule spelled permitted
+two_storage_words = refl
+
+-- a body behind a declarator without parameters
+no_parameters : fault_of (codes "int x{}") ≡ Some (cause.Syntax, 5)
+unfolding rule spelled permitted
+no_parameters = refl
+
+-- a member of a scalar in braces
+a_member_of_a_scalar : fault_of (codes "int x={{.m=1}};") ≡ Some (cause.NotRecord, 9)
+unfolding rule spelled permitted
+a_member_of_a_scalar = refl
+
+-- what is behind the one item for a scalar is unknown
+behind_a_scalar : fault_of (codes "int x={1,{.m=2}};") ≡ Some (cause.Elision, 11)
+unfolding rule spelled permitted
+behind_a_scalar = refl
+
+-- a typedef name is no value (6.5.1p2)
+a_type_in_an_expression : fault_of (codes "typedef int T;int x=sizeof T;") ≡ Some (cause.Unresolved, 27)
+unfolding rule spelled permitted
+a_type_in_an_expression = refl
+
+-- a callee that isn't declared (6.5.2.2)
+an_undeclared_callee : fault_of (codes "int f(void){return g();}") ≡ Some (cause.Unresolved, 19)
+unfolding rule spelled permitted
+an_undeclared_callee = refl
+
+-- a body's outermost declarations share the parameters' scope (6.2.1p4)
+a_parameter_and_a_local : fault_of (codes "int f(int a){int a;}") ≡ Some (cause.Redeclared, 17)
+unfolding rule spelled permitted
+a_parameter_and_a_local = refl
+
+-- a text without tokens
+nothing : means (codes "") ([]) ≡ true
+unfolding rule spelled permitted
+nothing = refl
+
+-- `_Thread_local` stands beside `static` (6.7.1p2)
+static_thread_local : means (codes "static _Thread_local int x;") ((25, Some 25) ∷ []) ≡ true
+unfolding rule spelled permitted
+static_thread_local = refl
+
+-- in a body `__func__` is built in, whatever is declared (6.4.2.2)
+a_declared_function_name : means (codes "int __func__;int f(void){return __func__;}") ((4, Some 4) ∷ (17, Some 17) ∷ (32, None) ∷ []) ≡ true
+unfolding rule spelled permitted
+a_declared_function_name = refl
+
+-- the suffix nearest to the name has the scope of the body
+a_pointer_with_a_body : means (codes "int(*f)(int a){return a;}") ((5, Some 5) ∷ (12, Some 12) ∷ (22, Some 12) ∷ []) ≡ true
+unfolding rule spelled permitted
+a_pointer_with_a_body = refl
+
+-- the place behind an anonymous record is that of the next written member (6.7.9p17)
+anonymous_in_place : means (codes "struct a{struct{int x;};struct{int m;}z;}v={{.x=1},{.m=2}};") ((7, Some 7) ∷ (20, Some 20) ∷ (35, Some 35) ∷ (38, Some 38) ∷ (41, Some 41) ∷ (46, Some 20) ∷ (53, Some 35) ∷ []) ≡ true
+unfolding rule spelled permitted
+anonymous_in_place = refl
+
+-- members and elements in an offset
+offset_of : means (codes "struct b{int m;};struct a{struct b k[2];};int o=__builtin_offsetof(struct a,k[1].m);") ((7, Some 7) ∷ (13, Some 13) ∷ (24, Some 24) ∷ (33, Some 7) ∷ (35, Some 35) ∷ (46, Some 46) ∷ (74, Some 24) ∷ (76, Some 35) ∷ (81, Some 13) ∷ []) ≡ true
+unfolding rule spelled permitted
+offset_of = refl
+
 -- ---- keys
 
 three_keys_of_one_name : keys_of (codes "node") (codes "typedef struct node node; struct list { node *node; };")
