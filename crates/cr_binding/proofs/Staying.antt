@@ -1,5 +1,5 @@
 -- Two spellings of a unit bind alike where each action reads the same of the names.
-use Rattle.std.specs.Prelude.{◌≡◌, ℕ, Bool, true, false, not, ◌&&◌, ◌||◌, if◌then◌else◌, eqb, Option, Some, None, is_some, unwrap_or, option_map, List, [], ◌∷◌, ◌++◌, drop}
+use Rattle.std.specs.Prelude.{◌≡◌, ℕ, Bool, true, false, not, ◌&&◌, if◌then◌else◌, eqb, Option, Some, None, is_some, unwrap_or, List, [], ◌∷◌, ◌++◌, drop}
 use Rattle.std.specs.List.{list_any}
 use Rattle.std.proofs.Common.{refl, ◌∙◌, ap}
 use Rattle.cr_base.specs.declared.Kind.{Kind}
@@ -13,16 +13,14 @@ use Rattle.cr_ll.specs.Derivation.{Trees, none, token, action, node}
 use Rattle.cr_ll.specs.Guards.{is_name, is_string as is_string_kind}
 use Rattle.cr_scope.specs.declared.Space.{Space}
 use Rattle.cr_scope.specs.declared.Space.TheVariants as space
-use Rattle.cr_scope.specs.declared.Linkage.{Linkage}
 use Rattle.cr_scope.specs.declared.Linkage.TheVariants as linkage
-use Rattle.cr_scope.specs.Linkage as scopes
 use Rattle.cr_types.specs.Types.{CType, Void, Arith, Arr}
 use Rattle.cr_decl.specs.declared.SpecWord.TheVariants as word
 use Rattle.cr_typing.specs.ExpressionTypes.{decayed}
 use Rattle.cr_binding.specs.Source.{Source, text_at, is_identifier, is_built_in}
 use Rattle.cr_binding.specs.State.{Declaration, Record, Member, State, start, Target, Whole, Within, GoesTo, IsParameter}
-use Rattle.cr_binding.specs.Entities.{entry, token_or}
-use Rattle.cr_binding.specs.Declaring.{failed, used, declare, declaration, declaration_at, meaning_here, linkage_for, linkage_seen, is_internal, has_word, looked_up, declare_as, kind_of, declare_named, declare_plain, declare_parameter, is_function_kind}
+use Rattle.cr_binding.specs.Entities.{token_or}
+use Rattle.cr_binding.specs.Declaring.{failed, used, declare, declaration, declaration_at, meaning_here, linkage_seen, is_internal, has_word, looked_up, kind_of, declare_named, declare_plain, declare_parameter}
 use Rattle.cr_binding.specs.Specifying.{specifier_at, specified, announced, based, named_type, typedef_name, specified_by, type_specifier, specified_type, declared_type}
 use Rattle.cr_binding.specs.Tags.{is_record_kind, is_union_kind, new_type, record_of, tag_here, declare_tag, tag_again, tag_alone, filling, completing, tag_definition, used_tag, tag_use}
 use Rattle.cr_binding.specs.RecordMembers.{least_token, write_unless, write, named_member, add_member, brought_in, add_anonymous, splice}
@@ -31,7 +29,7 @@ use Rattle.cr_binding.specs.Initialising.{Value, StringValue, leaves, is_string,
 use Rattle.cr_binding.specs.Scoping.{left, unless_failed, jump_to, all_jumps}
 use Rattle.cr_binding.specs.Actions.{passed, acted}
 use Rattle.cr_binding.specs.Binding.{ended, goes_on, asked, walk}
-use Rattle.cr_binding.specs.BindingStays.{AreWordsAlike, is_refused, MeansAlike, DeclaresAlike, MentionsAlike, NamesATagAlike, UsesATagAlike, DeclaresPending, SeesPending, AddsAlike, AddsPending, BringsAlike, SelectsAlike, DesignatesAlike, JumpAlike, IsAlike, Along, BindingStays}
+use Rattle.cr_binding.specs.BindingStays.{AreWordsAlike, is_refused, pending_linkage, MeansAlike, DeclaresAlike, MentionsAlike, NamesATagAlike, UsesATagAlike, DeclaresPending, SeesPending, AddsAlike, AddsPending, BringsAlike, SelectsAlike, DesignatesAlike, JumpAlike, IsAlike, Along, BindingStays}
 
 module _ (t u : Source) where
   -- ---- declarations
@@ -42,48 +40,26 @@ module _ (t u : Source) where
   plain_alike : (sp : Space) (k : Kind) (i : ℕ) (c : CType) (s : State) → DeclaresAlike t u s sp k linkage.None i → declare_plain u sp k i c s ≡ declare_plain t sp k i c s
   plain_alike sp k i c s h = declare_alike (declaration sp k linkage.None i c s) s h
 
-  seen_alike : (seen : Option Declaration) → scopes.linkage_seen (option_map (entry u) seen) ≡ scopes.linkage_seen (option_map (entry t) seen)
-  seen_alike None = refl
-  seen_alike (Some d) = refl
-
-  by_alike : (file static extern function : Bool) (seen : Option Declaration) → scopes.linkage_by file static extern function (option_map (entry u) seen) ≡ scopes.linkage_by file static extern function (option_map (entry t) seen)
-  by_alike file static extern function seen =
-      ap (λ l. if static then (if file then linkage.Internal else linkage.None) else (if extern || function then l else (if file then linkage.External else linkage.None))) (seen_alike seen)
-
-  abbrev by_words : Source → Option Declaration → Kind → State → Linkage
-  by_words v seen k s =
-      scopes.linkage_by (scopes.is_file_scope s.present) (has_word word.Static s) (has_word word.Extern s) (is_function_kind k) (option_map (entry v) seen)
-
-  of_kind_alike : (seen : Option Declaration) (k : Kind) (s : State) → by_words u seen k s ≡ by_words t seen k s
-  of_kind_alike seen k s = by_alike (scopes.is_file_scope s.present) (has_word word.Static s) (has_word word.Extern s) (is_function_kind k) seen
-
-  linkage_alike : (seen : Option Declaration) (k : Kind) (s : State) → linkage_for u seen k s ≡ linkage_for t seen k s
-  linkage_alike seen kind.Typedef s = refl
-  linkage_alike seen kind.Function s = of_kind_alike seen kind.Function s
-  linkage_alike seen kind.Object s = of_kind_alike seen kind.Object s
-  linkage_alike seen kind.Enumerator s = of_kind_alike seen kind.Enumerator s
-  linkage_alike seen kind.Struct s = of_kind_alike seen kind.Struct s
-  linkage_alike seen kind.Union s = of_kind_alike seen kind.Union s
-  linkage_alike seen kind.Enum s = of_kind_alike seen kind.Enum s
-  linkage_alike seen kind.Member s = of_kind_alike seen kind.Member s
-  linkage_alike seen kind.Label s = of_kind_alike seen kind.Label s
+  -- where linkage isn't taken from it, what is seen has no part
+  seen_alike : (internal static : Bool) (i : ℕ) (k l : Option ℕ) (s : State) → (internal ≡ true → static ≡ false → k ≡ l) → (if internal && not static then looked_up space.Ordinary i k s else s) ≡ (if internal && not static then looked_up space.Ordinary i l s else s)
+  seen_alike true true i k l s h = refl
+  seen_alike true false i k l s h = ap (λ x. looked_up space.Ordinary i x s) (h refl refl)
+  seen_alike false static i k l s h = refl
 
   if_seen_alike : (b : Bool) (d : Declaration) (i : ℕ) (k : Option ℕ) (s : State) → is_refused t u s u d ≡ is_refused t u s t d → declare u d (if b then looked_up space.Ordinary i k s else s) ≡ declare t d (if b then looked_up space.Ordinary i k s else s)
   if_seen_alike true d i k s h = declare_alike d (looked_up space.Ordinary i k s) h
   if_seen_alike false d i k s h = declare_alike d s h
 
-  declare_as_alike : (k : Option ℕ) (what : Kind) (i : ℕ) (c : CType) (s : State) → DeclaresAlike t u s space.Ordinary what (linkage_for t (declaration_at s k) what s) i → declare_as u k what i c s ≡ declare_as t k what i c s
-  declare_as_alike k what i c s h =
-      let l = linkage_for t (declaration_at s k) what s in
-      ap (λ l. declare u (declaration space.Ordinary what l i c s) (linkage_seen l i k s)) (linkage_alike (declaration_at s k) what s)
-      ∙ if_seen_alike (is_internal l && not (has_word word.Static s)) (declaration space.Ordinary what l i c s) i k s h
-
   named_alike : (i : Option ℕ) (s : State) → SeesPending t u s i → declare_named u i (declared_type s) s ≡ declare_named t i (declared_type s) s
   named_alike None s h = refl
   named_alike (Some i) s h =
       let c = declared_type s in
-      ap (λ k. declare_as u k (kind_of c s) i c s) h.0
-      ∙ declare_as_alike (meaning_here t space.Ordinary i s) (kind_of c s) i c s h.1
+      let l = pending_linkage t u s t i in
+      let d = declaration space.Ordinary (kind_of c s) l i c s in
+      let k = meaning_here u space.Ordinary i s in
+      ap (λ l. declare u (declaration space.Ordinary (kind_of c s) l i c s) (linkage_seen l i k s)) h.takes
+      ∙ ap (λ x. declare u d x) (seen_alike (is_internal l) (has_word word.Static s) i k (meaning_here t space.Ordinary i s) s h.means)
+      ∙ if_seen_alike (is_internal l && not (has_word word.Static s)) d i (meaning_here t space.Ordinary i s) s h.declares
 
   parameter_alike : (i : Option ℕ) (c : CType) (s : State) → DeclaresPending t u s i → declare_parameter u i c s ≡ declare_parameter t i c s
   parameter_alike None c s h = refl

@@ -1,5 +1,5 @@
 -- When two spellings of a unit bind alike: each action reads the same of the names.
-use Rattle.std.specs.Prelude.{◌≡◌, ℕ, Bool, true, ◌&&◌, Option, Some, None, unwrap_or, List, [], ◌∷◌, map}
+use Rattle.std.specs.Prelude.{◌≡◌, ℕ, Bool, true, false, ◌&&◌, Option, Some, None, unwrap_or, List, [], ◌∷◌, map}
 use Rattle.std.specs.List.{list_any}
 use Rattle.cr_grammar.specs.declared.symbols.NonTerm.{NonTerm}
 use Rattle.cr_grammar.specs.declared.symbols.NonTerm.TheVariants as n
@@ -14,11 +14,12 @@ use Rattle.cr_scope.specs.Redeclaration.{clashes}
 use Rattle.cr_types.specs.Types.{CType, Void}
 use Rattle.cr_base.specs.declared.Kind.{Kind}
 use Rattle.cr_base.specs.declared.Kind.TheVariants as kind
+use Rattle.cr_decl.specs.declared.SpecWord.TheVariants as word
 use Rattle.cr_typing.specs.Initialisers.{starts_from}
 use Rattle.cr_binding.specs.Source.{Source, token_of, name_at, text_at, is_identifier, is_built_in}
 use Rattle.cr_binding.specs.State.{Declaration, Member, Target, Whole, Within, State, start}
 use Rattle.cr_binding.specs.Entities.{entry}
-use Rattle.cr_binding.specs.Declaring.{declaration, meaning_here, declaration_at, kind_of, linkage_for}
+use Rattle.cr_binding.specs.Declaring.{declaration, meaning_here, declaration_at, kind_of, linkage_for, is_internal, has_word}
 use Rattle.cr_binding.specs.Specifying.{specifier_at, specified_type, declared_type}
 use Rattle.cr_binding.specs.Tags.{tag_here, record_of}
 use Rattle.cr_binding.specs.RecordMembers.{select, repeated, named_member, brought_in}
@@ -65,14 +66,19 @@ module _ (t u : Source) (s : State) where
   DeclaresPending None = Unit {0}
   DeclaresPending (Some i) = DeclaresAlike space.Ordinary kind.Object linkage.None i
 
-  -- an object, a function or a typedef name, which takes its linkage from what it sees
-  abbrev pub pending_linkage : ℕ → Linkage
-  pending_linkage i = linkage_for t (declaration_at s (meaning_here t space.Ordinary i s)) (kind_of (declared_type s) s) s
+  -- the linkage that an object, a function or a typedef name takes
+  abbrev pub pending_linkage : Source → ℕ → Linkage
+  pending_linkage v i = linkage_for v (declaration_at s (meaning_here v space.Ordinary i s)) (kind_of (declared_type s) s) s
+
+  -- It is the same; where it is internal without `static`, and so taken from what is seen, the same is seen.
+  pub record SeesAlike (i : ℕ) : Type 0 where
+    pub takes : pending_linkage u i ≡ pending_linkage t i
+    pub means : is_internal (pending_linkage t i) ≡ true → has_word word.Static s ≡ false → MeansAlike space.Ordinary i
+    pub declares : DeclaresAlike space.Ordinary (kind_of (declared_type s) s) (pending_linkage t i) i
 
   abbrev pub SeesPending : Option ℕ → Type 0
   SeesPending None = Unit {0}
-  SeesPending (Some i) =
-      MeansAlike space.Ordinary i × DeclaresAlike space.Ordinary (kind_of (declared_type s) s) (pending_linkage i) i
+  SeesPending (Some i) = SeesAlike i
 
   -- new names select in a record beside the others, or may not
   abbrev pub AddsAlike : ℕ → List Member → Type 0
