@@ -1,6 +1,7 @@
 mod FactRows
 mod Growing
 mod Reading
+mod Renaming
 mod Rows
 mod Staying
 mod Stepping

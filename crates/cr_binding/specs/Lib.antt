@@ -1,4 +1,5 @@
 pub mod Actions
+pub mod ActionsStay
 pub mod Binding
 pub mod BindingGrows
 pub mod BindingStays

@@ -2,9 +2,12 @@
 //! the keys and facts that follow, and a law over it.
 #![tactic(auto)]
 
+ghost use Rattle.cr_binding.specs.ActionsStay.{KeepsMeaning, KeepsDeclaration, KeepsTakenLinkage, KeepsUnseenTag};
 ghost use Rattle.cr_binding.specs.BindingGrows.{BindingGrows, FaultStays};
 ghost use Rattle.cr_binding.specs.BindingStays.{BindingStays};
 ghost use Rattle.cr_binding.specs.Steps.{StepsBind, StepsAreEvents};
+
+use cr_capture::{renaming_keeps_a_new_tag, renaming_keeps_linkage, renaming_keeps_lookup};
 
 /// Where two spellings of the same tokens have the same look-ups, redeclarations and selections at each action, they
 /// have the same binding. It does nothing: its contract is the law.
@@ -25,3 +28,17 @@ pub fn binding_grows()
     ensures lists { BindingGrows }
     ensures fault { FaultStays }
 {}
+
+/// Where neither what an action reads nor a declaration before it has a conflict of a renamed declaration, the action
+/// reads the same after the renaming: what a token denotes, that a declaration may stand beside those before it, which
+/// linkage it takes, and that a tag isn't declared yet. It does nothing: its contract is the law.
+pub fn renaming_keeps_what_is_read()
+    ensures meaning { KeepsMeaning }
+    ensures declaration { KeepsDeclaration }
+    ensures linkage { KeepsTakenLinkage }
+    ensures tag { KeepsUnseenTag }
+{
+    renaming_keeps_lookup();
+    renaming_keeps_linkage();
+    renaming_keeps_a_new_tag();
+}
