@@ -1,3 +1,4 @@
+mod Asking
 mod FactRows
 mod Growing
 mod Reading

@@ -36,7 +36,7 @@ entry_after : (class : ℕ → Bool) (new : Name) (t u : Source) → IsRespelled
 entry_after class new t u r d =
     ap (λ n. record { path = d.path; decl = record { space = d.space; name = n; token = d.token; kind = d.kind; linkage = d.linkage; note = 0 } }) (r.names d.token)
 
-entries_after : (class : ℕ → Bool) (new : Name) (t u : Source) → IsRespelled class new t u → (ds : List Declaration) → map (entry u) ds ≡ map (renamed (declared_by class) new) (map (entry t) ds)
+pub entries_after : (class : ℕ → Bool) (new : Name) (t u : Source) → IsRespelled class new t u → (ds : List Declaration) → map (entry u) ds ≡ map (renamed (declared_by class) new) (map (entry t) ds)
 entries_after class new t u r [] = refl
 entries_after class new t u r (d ∷ ds) =
     ap (λ e. e ∷ map (entry u) ds) (entry_after class new t u r d)

@@ -12,11 +12,12 @@ use Rattle.cr_scope.specs.Meaning.{IsLookup}
 use Rattle.cr_types.specs.Types.{Void}
 use Rattle.cr_decl.specs.declared.SpecWord.TheVariants as word
 use Rattle.cr_capture.specs.declared.Mention.TheVariants as mention
-use Rattle.cr_capture.specs.Renaming.{Class, IsRenaming, IsFree, AreFree}
+use Rattle.cr_capture.specs.Renaming.{Class, IsRenaming, IsFree, AreFree, AreAccepted, IsFreeParameter}
 use Rattle.cr_binding.specs.Source.{Source, name_at}
 use Rattle.cr_binding.specs.State.{Declaration, State}
 use Rattle.cr_binding.specs.Entities.{entry}
 use Rattle.cr_binding.specs.Declaring.{declaration, declaration_at, meaning_here, linkage_for, has_word}
+use Rattle.cr_binding.specs.WellFormed.{is_typedef_name}
 use Rattle.cr_binding.specs.BindingStays.{MeansAlike, is_refused}
 
 -- u is t, with the name new at the tokens of a class
@@ -95,3 +96,28 @@ KeepsUnseenTag =
     → IsFree (declared_by class) (scopes_with t s (tag_at s i)) old new (mention.Named space.Tag (name_at t i) i None)
     → meaning_here t space.Tag i s ≡ None
     → meaning_here u space.Tag i s ≡ None
+
+-- An identifier that was asked and denotes a declaration is a typedef name after the renaming just where it was one,
+abbrev pub KeepsAskedName : Type 0
+KeepsAskedName =
+    (class : ℕ → Bool) (old new : Name) (t u : Source) (s : State) (i : ℕ) (d : DeclNo) (e : Entry)
+    → IsRespelled class new t u
+    → IsRenaming (declared_by class) old new (entries_of t s)
+    → AreFree (declared_by class) (scopes_of t s) old new
+    → IsFree (declared_by class) (scopes_of t s) old new (mention.Named space.Ordinary (name_at t i) i (Some d))
+    → IsLookup s.present space.Ordinary (name_at t i) (entries_of t s) (number d) e
+    → class i ≡ class e.decl.token
+    → is_typedef_name u s.present i s.declarations ≡ is_typedef_name t s.present i s.declarations
+
+-- and one that declares a parameter or is built in, and was no typedef name, is none.
+abbrev pub KeepsDeniedAsk : Type 0
+KeepsDeniedAsk =
+    (class : ℕ → Bool) (old new : Name) (t u : Source) (s : State) (i : ℕ) (parameter : Bool)
+    → IsRespelled class new t u
+    → IsRenaming (declared_by class) old new (entries_of t s)
+    → AreAccepted (entries_of t s)
+    → AreFree (declared_by class) (scopes_of t s) old new
+    → IsFree (declared_by class) (scopes_of t s) old new (mention.Asked (name_at t i) i parameter)
+    → IsFreeParameter (class i) (scopes_of t s) old new (name_at t i) i parameter
+    → is_typedef_name t s.present i s.declarations ≡ false
+    → is_typedef_name u s.present i s.declarations ≡ false

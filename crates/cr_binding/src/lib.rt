@@ -2,12 +2,15 @@
 //! the keys and facts that follow, and a law over it.
 #![tactic(auto)]
 
-ghost use Rattle.cr_binding.specs.ActionsStay.{KeepsMeaning, KeepsDeclaration, KeepsTakenLinkage, KeepsUnseenTag};
+ghost use Rattle.cr_binding.specs.ActionsStay.{KeepsMeaning, KeepsDeclaration, KeepsTakenLinkage, KeepsUnseenTag, KeepsAskedName, KeepsDeniedAsk};
 ghost use Rattle.cr_binding.specs.BindingGrows.{BindingGrows, FaultStays};
 ghost use Rattle.cr_binding.specs.BindingStays.{BindingStays};
 ghost use Rattle.cr_binding.specs.Steps.{StepsBind, StepsAreEvents};
 
-use cr_capture::{renaming_keeps_a_new_tag, renaming_keeps_linkage, renaming_keeps_lookup};
+use cr_capture::{
+    renaming_keeps_a_new_tag, renaming_keeps_an_ask, renaming_keeps_linkage, renaming_keeps_lookup,
+};
+use cr_scope::lookup_means;
 
 /// Where two spellings of the same tokens have the same look-ups, redeclarations and selections at each action, they
 /// have the same binding. It does nothing: its contract is the law.
@@ -41,4 +44,15 @@ pub fn renaming_keeps_what_is_read()
     renaming_keeps_lookup();
     renaming_keeps_linkage();
     renaming_keeps_a_new_tag();
+}
+
+/// In the same case an identifier that was asked is a typedef name after the renaming just where it was one: one that
+/// denotes a declaration, and one that declares a parameter or is built in. It does nothing: its contract is the law.
+pub fn renaming_keeps_what_is_asked()
+    ensures denoted { KeepsAskedName }
+    ensures denied { KeepsDeniedAsk }
+{
+    lookup_means();
+    renaming_keeps_lookup();
+    renaming_keeps_an_ask();
 }
