@@ -26,7 +26,9 @@ use Rattle.cr_binding.specs.State.{Declaration, Member, LookedUp, WasAsked, IsPa
 use Rattle.cr_binding.specs.Entities.{entry}
 use Rattle.cr_binding.specs.Binding.{bound}
 use Rattle.cr_binding.specs.UnitConflicts.{scopes_at}
-use Rattle.cr_binding.specs.UnitFacts.{Tells}
+use Rattle.cr_binding.specs.Resolution.{Declared, Occurrence, declaring, occurrences}
+use Rattle.cr_binding.specs.UnitFacts.{IsHidden as IsInAttribute, Denotes, Tells}
+use Rattle.cr_base.specs.declared.cause.Role.TheVariants as role
 use Rattle.cr_binding.proofs.Reading.{source, parsed, place}
 
 at : {A : Type 0} (xs : List A) (k : ℕ) (x : A) → slice_get xs k ≡ Some x → Contains xs x
@@ -182,3 +184,49 @@ a_parameter_becomes_a_type : Facts 9 2 asked_text (fact.Conflict (key.At (place 
 unfolding rule spelled permitted
 a_parameter_becomes_a_type =
     inl (asked_scopes, mention.Asked (name 9) 9 true, (None, 9), object (1 ∷ []) 9, (1 ∷ [], 1, at (binding asked_source).uses 0 (WasAsked 9 (1 ∷ []) 1 false) refl, refl, refl, at (binding asked_source).uses 1 (IsParameter 9) refl), inr (inr (refl, refl, refl, bar_is_a_type)), refl, refl, refl)
+
+-- ---- an identifier in the brackets of an attribute, and what is declared beside it
+
+abbrev hidden_text : List ℕ
+hidden_text = codes "int foo __attribute__((foo));"
+
+abbrev hidden_source : Source
+hidden_source = source hidden_text
+
+is_hidden_foo : IsInAttribute hidden_source (binding hidden_source) (name 1) 5
+unfolding rule spelled permitted
+is_hidden_foo = record { there = at (binding hidden_source).hidden 0 5 refl; sort = refl; spelled = refl }
+
+it_is_opaque : Facts 1 0 hidden_text (fact.HasRole (place 23) role.Opaque)
+unfolding rule spelled permitted
+it_is_opaque = (5, record { spelled = refl; comes = refl }, is_hidden_foo)
+
+it_is_opaque_at : Facts 1 0 hidden_text (fact.OpaqueAt (place 23))
+unfolding rule spelled permitted
+it_is_opaque_at = (5, inl is_hidden_foo, refl)
+
+abbrev foo : Occurrence
+foo = (1, Declared (external kind.Object Arith 1))
+
+foo_is_denoted : Denotes 1 hidden_source (binding hidden_source) (name 1) (name 0) (place 4) (key.Ext (codes "foo")) foo
+unfolding rule spelled permitted
+foo_is_denoted = record { occurs = at (occurrences (binding hidden_source)) 0 foo refl; placed = record { spelled = refl; comes = refl }; keyed = refl }
+
+foo_is_declared : Facts 1 0 hidden_text (fact.Declares (key.Ext (codes "foo")) (place 4))
+unfolding rule spelled permitted
+foo_is_declared = (foo, foo_is_denoted, at (declaring (binding hidden_source)) 0 foo refl)
+
+foo_is_an_object : Facts 1 0 hidden_text (fact.OfKind (key.Ext (codes "foo")) kind.Object)
+unfolding rule spelled permitted
+foo_is_an_object =
+    (foo, place 4, foo_is_denoted, (external kind.Object Arith 1, at (binding hidden_source).declarations 0 (external kind.Object Arith 1) refl, inl refl, refl))
+
+foo_is_at_file_scope : Facts 1 0 hidden_text (fact.FileScope (key.Ext (codes "foo")))
+unfolding rule spelled permitted
+foo_is_at_file_scope =
+    (foo, place 4, foo_is_denoted, (external kind.Object Arith 1, at (binding hidden_source).declarations 0 (external kind.Object Arith 1) refl, inl refl, refl))
+
+-- where something is renamed to foo, its key is one that the text has already
+foo_is_new : Facts 0 1 hidden_text (fact.NewKey (key.Ext (codes "foo")))
+unfolding rule spelled permitted
+foo_is_new = (foo, at (declaring (binding hidden_source)) 0 foo refl, refl, refl, refl)

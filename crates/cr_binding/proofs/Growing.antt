@@ -1,5 +1,5 @@
 -- The lists of a unit only grow.
-use Rattle.std.specs.Prelude.{◌≡◌, ℕ, Bool, true, false, not, ◌&&◌, if◌then◌else◌, Option, Some, None, is_some, unwrap_or, Result, Ok, Err, List, [], ◌∷◌, ◌++◌, map, eqb, ◌+◌}
+use Rattle.std.specs.Prelude.{◌≡◌, ℕ, Bool, true, false, not, ◌&&◌, if◌then◌else◌, Option, Some, None, is_some, unwrap_or, Result, Ok, Err, List, [], ◌∷◌, ◌++◌, map, length, take, eqb, ◌+◌}
 use Rattle.std.specs.List.{list_any}
 use Rattle.std.proofs.Common.{refl, sym, ◌∙◌, ap}
 use Rattle.std.proofs.lemmas.List.{append_assoc, append-nil}
@@ -34,7 +34,7 @@ use Rattle.cr_binding.specs.Initialising.{dotted, designating, designator, initi
 use Rattle.cr_binding.specs.Scoping.{entered_in, body_within, unless_failed, jump_to, all_jumps, body_ended}
 use Rattle.cr_binding.specs.Actions.{passed, acted}
 use Rattle.cr_binding.specs.Binding.{is_empty, ended_as, ended, asked, unless_refused, goes_on, walk}
-use Rattle.cr_binding.specs.BindingGrows.{Extends, Grows, BindingGrows, FaultStays}
+use Rattle.cr_binding.specs.BindingGrows.{Extends, Grows, BindingGrows, FaultStays, ScopesAreTold}
 
 -- ---- growing
 
@@ -378,3 +378,15 @@ fault_stays t m first (action x next) s f h =
     fault_stays t m first next (goes_on s (acted t m (unwrap_or first s.last) x s)) f (unless_keeps s _ f h)
 fault_stays t m first (node k asks children next) s f h =
     fault_stays t m first next (unless_failed s (ended m k children s (walk t k None children (asked asks s)))) f (unless_keeps s _ f h)
+
+-- ---- scopes
+
+front_of : {A : Type 0} (xs ys : List A) → take (length xs) (xs ++ ys) ≡ xs
+front_of [] ys = refl
+front_of (x ∷ xs) ys = ap (λ l. x ∷ l) (front_of xs ys)
+
+pub scopes_are_told : ScopesAreTold
+scopes_are_told t m first trees s =
+    let x : Extends s.declarations (walk t m first trees s).declarations = (binding_grows t m first trees s).declarations in
+    ap (λ ds. record { scopes = []; present = s.present; entries = map (entry t) ds })
+    (ap (λ ds. take (length s.declarations) ds) x.1 ∙ front_of s.declarations x.0)

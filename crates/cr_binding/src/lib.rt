@@ -3,7 +3,7 @@
 #![tactic(auto)]
 
 ghost use Rattle.cr_binding.specs.ActionsStay.{KeepsMeaning, KeepsDeclaration, KeepsTakenLinkage, KeepsUnseenTag, KeepsAskedName, KeepsDeniedAsk};
-ghost use Rattle.cr_binding.specs.BindingGrows.{BindingGrows, FaultStays};
+ghost use Rattle.cr_binding.specs.BindingGrows.{BindingGrows, FaultStays, ScopesAreTold};
 ghost use Rattle.cr_binding.specs.BindingStays.{BindingStays};
 ghost use Rattle.cr_binding.specs.Steps.{StepsBind, StepsAreEvents};
 
@@ -25,11 +25,12 @@ pub fn steps_bind()
     ensures events { StepsAreEvents }
 {}
 
-/// The lists of a unit only grow while it is bound, and a fault stays the first one. It does nothing: its contract is
-/// the law.
+/// The lists of a unit only grow while it is bound, a fault stays the first one, and what was visible at a place is told
+/// by the lists in the end. It does nothing: its contract is the law.
 pub fn binding_grows()
     ensures lists { BindingGrows }
     ensures fault { FaultStays }
+    ensures scopes { ScopesAreTold }
 {}
 
 /// Where neither what an action reads nor a declaration before it has a conflict of a renamed declaration, the action
