@@ -73,7 +73,7 @@ words_ended s =
 abbrev pub based : CType → State → State
 based c s = record s { pending = record s.pending { base = Some c; is_untagged = false } }
 
--- a typedef name (6.7.8)
+-- a typedef name (6.7.8): the grammar asked whether it is one
 abbrev pub named_type : Option ℕ → Option Declaration → ℕ → State → State
 named_type k None i s = failed cause.Unresolved i s
 named_type k (Some d) i s = based d.type (looked_up space.Ordinary i k s)
@@ -108,8 +108,8 @@ is_declarator n.ADtor = true
 is_declarator n.Sufs = true
 is_declarator _ = false
 
--- The derivations of a declarator, the outermost one first. From left to right they stand so: a pointer's is due behind
--- what its `*` stands before, an array's and a function's behind what their brackets stand after.
+-- The derivations of a declarator, the outermost one first, as they are due from left to right: an array's and a function's
+-- behind their brackets, and a pointer's behind all that its `*` stands before (6.7.6.1 to 6.7.6.3).
 abbrev pub derivations : Trees → List Part
 derivations none = []
 derivations (token i next) = derivations next
