@@ -4,5 +4,6 @@ mod Growing
 mod Reading
 mod Renaming
 mod Rows
+mod Selecting
 mod Staying
 mod Stepping

@@ -8,6 +8,7 @@ pub mod Entities
 pub mod Expressions
 pub mod Initialising
 pub mod Keys
+pub mod MembersStay
 pub mod RecordMembers
 pub mod Resolution
 pub mod Scoping

@@ -6,6 +6,7 @@ ghost use Rattle.cr_binding.specs.ActionsStay.{KeepsMeaning, KeepsDeclaration, K
 ghost use Rattle.cr_binding.specs.BindingGrows.{BindingGrows, FaultStays, ScopesAreTold};
 ghost use Rattle.cr_binding.specs.BindingStays.{BindingStays};
 ghost use Rattle.cr_binding.specs.Steps.{StepsBind, StepsAreEvents};
+ghost use Rattle.cr_binding.specs.MembersStay.{KeepsSelection, KeepsNewMembers};
 
 use cr_capture::{
     renaming_keeps_a_new_tag, renaming_keeps_an_ask, renaming_keeps_linkage, renaming_keeps_lookup,
@@ -57,3 +58,10 @@ pub fn renaming_keeps_what_is_asked()
     renaming_keeps_lookup();
     renaming_keeps_an_ask();
 }
+
+/// Where no member that is renamed meets one of the new name in a record, a token that selects a member selects it after
+/// the renaming, and members that are new to a record are new to it. It does nothing: its contract is the law.
+pub fn renaming_keeps_members()
+    ensures selection { KeepsSelection }
+    ensures members { KeepsNewMembers }
+{}
