@@ -7,3 +7,4 @@ mod Rows
 mod Selecting
 mod Staying
 mod Stepping
+mod Tagging

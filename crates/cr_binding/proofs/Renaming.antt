@@ -84,7 +84,7 @@ module _ (class : Class) (old new : Name) (f : Flat) (own : DeclNo) (x : Entry) 
       (r.0, r.1, r.2, r.3, c.0, one_name r.1.decl.name name c.1)
 
   -- one is of the class, so of the name old, and the other of the name new; one of the two is x
-  not_beside : (i j : ℕ) (g h : Entry) → slice_get f.entries i ≡ Some g → slice_get f.entries j ≡ Some h → (own ≡ numbered i) ⊎ (own ≡ numbered j) → class g ≡ true → g.decl.name ≡ old → h.decl.name ≡ new → g.path ≡ h.path → g.decl.space ≡ h.decl.space → ⊥
+  pub not_beside : (i j : ℕ) (g h : Entry) → slice_get f.entries i ≡ Some g → slice_get f.entries j ≡ Some h → (own ≡ numbered i) ⊎ (own ≡ numbered j) → class g ≡ true → g.decl.name ≡ old → h.decl.name ≡ new → g.path ≡ h.path → g.decl.space ≡ h.decl.space → ⊥
   not_beside i j g h at_g at_h one cg ng nh path sp =
       free (numbered i) (max g.decl.token h.decl.token) g (
         numbered i,
@@ -222,7 +222,7 @@ keeps_declaration class old new t u s d own r of n free fine =
 
 -- ---- linkage
 
-entry_found : (t : Source) (ds : List Declaration) (i : ℕ) → option_map (entry t) (slice_get ds i) ≡ slice_get (map (entry t) ds) i
+pub entry_found : (t : Source) (ds : List Declaration) (i : ℕ) → option_map (entry t) (slice_get ds i) ≡ slice_get (map (entry t) ds) i
 entry_found t [] i = refl
 entry_found t (d ∷ ds) zero = refl
 entry_found t (d ∷ ds) (suc i) = entry_found t ds i

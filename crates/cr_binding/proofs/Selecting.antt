@@ -80,10 +80,10 @@ unlike n m h = by (same_name n m) refl
     by true e = absurd (h (one_name n m e))
     by false e = refl
 
-both_unlike : (a b : Name) (c d : Name) → (a ≡ b → ⊥) → (c ≡ d → ⊥) → same_name a b ≡ same_name c d
+pub both_unlike : (a b : Name) (c d : Name) → (a ≡ b → ⊥) → (c ≡ d → ⊥) → same_name a b ≡ same_name c d
 both_unlike a b c d h k = unlike a b h ∙ sym (unlike c d k)
 
-both_alike : (a b : Name) (c d : Name) → a ≡ b → c ≡ d → same_name a b ≡ same_name c d
+pub both_alike : (a b : Name) (c d : Name) → a ≡ b → c ≡ d → same_name a b ≡ same_name c d
 both_alike a b c d h k = same_names a b h ∙ sym (same_names c d k)
 
 -- ---- selecting

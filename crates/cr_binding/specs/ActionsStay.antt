@@ -1,5 +1,5 @@
 -- What a renaming without a conflict keeps of what one action reads: the laws on one mention, in the state of a unit.
-use Rattle.std.specs.Prelude.{◌≡◌, ℕ, Bool, false, cond, Some, None, List, [], ◌∷◌, ◌++◌, length, map}
+use Rattle.std.specs.Prelude.{◌≡◌, ℕ, Bool, true, false, cond, Some, None, List, [], ◌∷◌, ◌++◌, length, map, slice_get}
 use Rattle.cr_base.specs.declared.Name.{Name}
 use Rattle.cr_base.specs.declared.Kind.{Kind}
 use Rattle.cr_scope.specs.declared.Space.{Space}
@@ -15,8 +15,9 @@ use Rattle.cr_capture.specs.declared.Mention.TheVariants as mention
 use Rattle.cr_capture.specs.Renaming.{Class, IsRenaming, IsFree, AreFree, AreAccepted, IsFreeParameter}
 use Rattle.cr_binding.specs.Source.{Source, name_at}
 use Rattle.cr_binding.specs.State.{Declaration, State}
-use Rattle.cr_binding.specs.Entities.{entry}
+use Rattle.cr_binding.specs.Entities.{entry, is_tag_here}
 use Rattle.cr_binding.specs.Declaring.{declaration, declaration_at, meaning_here, linkage_for, has_word}
+use Rattle.cr_binding.specs.Tags.{tag_here}
 use Rattle.cr_binding.specs.WellFormed.{is_typedef_name}
 use Rattle.cr_binding.specs.BindingStays.{MeansAlike, is_refused}
 
@@ -121,3 +122,15 @@ KeepsDeniedAsk =
     → IsFreeParameter (class i) (scopes_of t s) old new (name_at t i) i parameter
     → is_typedef_name t s.present i s.declarations ≡ false
     → is_typedef_name u s.present i s.declarations ≡ false
+
+-- The tag of the present scope that a token defines or declares again is the same one, or there is none, after the renaming.
+-- Tags of one name in one scope are one entity, so all or none of them is renamed.
+abbrev pub KeepsTagHere : Type 0
+KeepsTagHere =
+    (class : ℕ → Bool) (old new : Name) (t u : Source) (s : State) (i : ℕ) (own : DeclNo)
+    → IsRespelled class new t u
+    → IsRenaming (declared_by class) old new (scopes_with t s (tag_at s i)).entries
+    → number own ≡ length (entries_of t s)
+    → IsFree (declared_by class) (scopes_with t s (tag_at s i)) old new (mention.Declared own)
+    → ((k : ℕ) (d : Declaration) → slice_get s.declarations k ≡ Some d → is_tag_here t s.present i d ≡ true → class i ≡ class d.token)
+    → tag_here u i s ≡ tag_here t i s

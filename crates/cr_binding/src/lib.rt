@@ -1,8 +1,8 @@
 //! The definition of binding (C11 6.2, 6.5 to 6.9), which computes: what each identifier of a translation unit means,
-//! the keys and facts that follow, and a law over it.
+//! the keys and facts that follow, and laws over it.
 #![tactic(auto)]
 
-ghost use Rattle.cr_binding.specs.ActionsStay.{KeepsMeaning, KeepsDeclaration, KeepsTakenLinkage, KeepsUnseenTag, KeepsAskedName, KeepsDeniedAsk};
+ghost use Rattle.cr_binding.specs.ActionsStay.{KeepsMeaning, KeepsDeclaration, KeepsTakenLinkage, KeepsUnseenTag, KeepsTagHere, KeepsAskedName, KeepsDeniedAsk};
 ghost use Rattle.cr_binding.specs.BindingGrows.{BindingGrows, FaultStays, ScopesAreTold};
 ghost use Rattle.cr_binding.specs.BindingStays.{BindingStays};
 ghost use Rattle.cr_binding.specs.Steps.{StepsBind, StepsAreEvents};
@@ -36,12 +36,15 @@ pub fn binding_grows()
 
 /// Where neither what an action reads nor a declaration before it has a conflict of a renamed declaration, the action
 /// reads the same after the renaming: what a token denotes, that a declaration may stand beside those before it, which
-/// linkage it takes, and that a tag isn't declared yet. It does nothing: its contract is the law.
+/// linkage it takes, that a tag isn't declared yet, and which tag of the present scope a token names.
+///
+/// It does nothing: its contract is the law.
 pub fn renaming_keeps_what_is_read()
     ensures meaning { KeepsMeaning }
     ensures declaration { KeepsDeclaration }
     ensures linkage { KeepsTakenLinkage }
     ensures tag { KeepsUnseenTag }
+    ensures tag_here { KeepsTagHere }
 {
     renaming_keeps_lookup();
     renaming_keeps_linkage();
