@@ -1,5 +1,5 @@
 -- Worked examples, computed. Tokens are told by their offsets.
-use Rattle.std.specs.Prelude.{◌≡◌, refl, ℕ, Bool, true, false, ◌&&◌, ◌==◌, ◌+◌, is_none, Option, Some, None, option_map, List, [], ◌∷◌, codes, bytes_eq, filter, map, length}
+use Rattle.std.specs.Prelude.{◌≡◌, refl, ℕ, Bool, true, false, ◌&&◌, ◌==◌, ◌+◌, is_none, Option, Some, None, option_map, List, [], ◌∷◌, codes, bytes_eq, filter, map, length, not, if◌then◌else◌, take}
 use Rattle.std.specs.List.{list_any, list_all}
 use Rattle.cr_base.specs.declared.cause.IllCause.{IllCause}
 use Rattle.cr_base.specs.declared.cause.IllCause.TheVariants as cause
@@ -11,7 +11,8 @@ use Rattle.cr_grammar.specs.Grammar.{rule}
 use Rattle.cr_grammar.specs.Spellings.{spelled}
 use Rattle.cr_decl.specs.Specifiers.{permitted}
 use Rattle.cr_binding.specs.Source.{Source, token_of, text_at}
-use Rattle.cr_binding.specs.State.{State}
+use Rattle.cr_binding.specs.State.{Use, WasAsked, State}
+use Rattle.cr_binding.specs.WellFormed.{is_typedef_name}
 use Rattle.cr_binding.specs.Resolution.{Occurrence, occurrences, resolution}
 use Rattle.cr_binding.specs.Keys.{key_of}
 use Rattle.cr_binding.specs.Binding.{bound}
@@ -29,8 +30,20 @@ abbrev at_offset : Source → Option (IllCause × ℕ) → Option (IllCause × �
 at_offset t None = None
 at_offset t (Some x) = Some (x.0, offset t x.1)
 
+-- the asks are answered by what was declared before them
+abbrev same_answer : Bool → Bool → Bool
+same_answer true b = b
+same_answer false b = not b
+
+abbrev is_answered : Source → State → Use → Bool
+is_answered t s (WasAsked i path before answer) = same_answer answer (is_typedef_name t path i (take before s.declarations))
+is_answered t s _ = true
+
+abbrev are_answered : Source → State → Bool
+are_answered t s = list_all (is_answered t s) s.uses
+
 abbrev fault_at : Source → Option (IllCause × ℕ)
-fault_at t = at_offset t (binding t).fault
+fault_at t = if are_answered t (binding t) then at_offset t (binding t).fault else None
 
 abbrev fault_of : List ℕ → Option (IllCause × ℕ)
 unfolding rule spelled permitted
@@ -58,7 +71,9 @@ abbrev is_whole : Source → Bool
 is_whole t = (parsed t).behind + 1 == length t.tokens
 
 abbrev means_by : Source → List Pair → Bool
-means_by t xs = is_none (binding t).fault && (is_whole t && (are_among (pairs t) xs && are_among xs (pairs t)))
+means_by t xs =
+    is_none (binding t).fault
+    && (is_whole t && (are_answered t (binding t) && (are_among (pairs t) xs && are_among xs (pairs t))))
 
 -- the whole text is a unit without a fault, and its identifiers mean just this
 abbrev means : List ℕ → List Pair → Bool
