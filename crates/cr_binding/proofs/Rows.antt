@@ -13,7 +13,7 @@ use Rattle.cr_decl.specs.Specifiers.{permitted}
 use Rattle.cr_binding.specs.Source.{Source, token_of, text_at}
 use Rattle.cr_binding.specs.State.{Use, WasAsked, State}
 use Rattle.cr_binding.specs.WellFormed.{is_typedef_name}
-use Rattle.cr_binding.specs.Resolution.{Occurrence, occurrences, resolution}
+use Rattle.cr_binding.specs.Resolution.{Occurrence, occurrences, resolution, answers}
 use Rattle.cr_binding.specs.Keys.{key_of}
 use Rattle.cr_binding.specs.Binding.{bound}
 use Rattle.cr_binding.proofs.Reading.{source, parsed, place}
@@ -381,3 +381,23 @@ a_label = refl
 a_built_in : keys_of (codes "__func__") (codes "int f(void){return __func__;}") ≡ (19, key.Made 1 7) ∷ []
 unfolding rule spelled permitted
 a_built_in = refl
+
+-- ---- answers
+
+abbrev answers_by : Source → List (ℕ × Bool)
+answers_by t = map {A = ℕ × Bool} (λ x. (offset t x.0, x.1)) (answers (binding t))
+
+-- each asked token, with the answer
+abbrev answers_of : List ℕ → List (ℕ × Bool)
+unfolding rule spelled permitted
+answers_of text = answers_by (source text)
+
+-- T is asked behind the parenthesis, and then as a specifier
+a_type_name_and_a_parameter : answers_of (codes "typedef int T;int c(int(T));int d(int T){return T;}") ≡ (24, true) ∷ (24, true) ∷ []
+unfolding rule spelled permitted
+a_type_name_and_a_parameter = refl
+
+-- x is asked as the first token of a statement, and behind a parenthesis where a type name could stand
+an_object_in_a_statement : answers_of (codes "int x;void f(void){x=(x);}") ≡ (19, false) ∷ (22, false) ∷ []
+unfolding rule spelled permitted
+an_object_in_a_statement = refl

@@ -21,6 +21,7 @@ use Rattle.cr_binding.specs.Source.{Source}
 use Rattle.cr_binding.specs.State.{Declaration, Use, LookedUp, IsParameter, State}
 use Rattle.cr_binding.specs.Entities.{entry, meaning}
 
+-- a fault, and its token
 abbrev pub failed : IllCause → ℕ → State → State
 failed c i s = record s { fault = Some (c, i) }
 
@@ -81,6 +82,7 @@ is_internal _ = false
 abbrev pub linkage_seen : Linkage → ℕ → Option ℕ → State → State
 linkage_seen l i k s = if is_internal l && not (has_word word.Static s) then looked_up space.Ordinary i k s else s
 
+-- a name of this kind and type is declared, for which a look-up gives k
 abbrev pub declare_as : Source → Option ℕ → Kind → ℕ → CType → State → State
 declare_as t k what i c s =
     let l = linkage_for t (declaration_at s k) what s in

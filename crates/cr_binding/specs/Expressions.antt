@@ -63,8 +63,8 @@ first_type c d = c
 abbrev pub second_type : CType → CType → CType
 second_type c d = d
 
--- A generic selection has the type of its results, which stands behind that of its first operand (6.5.1.1); so has
--- `__builtin_va_arg` that of its type name. An offset is arithmetic.
+-- Of the primary expressions that end with an action an offset is arithmetic. A generic selection has the type of its
+-- results, which stands behind that of its first operand (6.5.1.1), and `__builtin_va_arg` that of its type name.
 abbrev pub is_offset : List ℕ → Bool
 is_offset text = bytes_eq text (codes "__builtin_offsetof")
 
@@ -107,6 +107,7 @@ denoting called k None t i s = if called && is_built_in (text_at t i) then built
 denoting called k (Some d) t i s =
     if is_value d.kind then push d.type (looked_up space.Ordinary i k s) else failed cause.Unresolved i s
 
+-- an identifier, which is called or isn't (6.5.1p2, 6.5.2.2)
 abbrev pub identifier : (called : Bool) → Source → ℕ → State → State
 identifier called t i s =
     let k = meaning_here t space.Ordinary i s in
@@ -119,6 +120,7 @@ abbrev pub selecting : Result Member IllCause → ℕ → State → State
 selecting (Err c) i s = failed c i s
 selecting (Ok m) i s = record (used (Selects i m.token) s) { values = m.type ∷ drop 1 s.values }
 
+-- `.name`, or `->name`
 abbrev pub selection : (arrow : Bool) → Source → ℕ → State → State
 selection arrow t i s = selecting (select t s arrow (name_at t i) (operand s)) i s
 

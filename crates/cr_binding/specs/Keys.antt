@@ -1,6 +1,6 @@
 -- What tells an entity from those of all translation units: equal keys are one entity (C11 6.2.2; that tags of file scope are
 -- one in all units is our own rule).
-use Rattle.std.specs.Prelude.{ℕ, Bool, true, false, ◌&&◌, ◌==◌, if◌then◌else◌, Option, Some, None, slice_get}
+use Rattle.std.specs.Prelude.{◌≡◌, Contains, ℕ, Bool, true, false, ◌&&◌, ◌==◌, if◌then◌else◌, Option, Some, None, slice_get}
 use Rattle.std.specs.List.{find}
 use Rattle.std.specs.Option.{option_map_or}
 use Rattle.cr_base.specs.declared.Kind.{Kind}
@@ -19,7 +19,7 @@ use Rattle.cr_scope.specs.Linkage.{is_file_scope}
 use Rattle.cr_binding.specs.Source.{Source, token_of, text_at}
 use Rattle.cr_binding.specs.State.{Declaration, Member, State}
 use Rattle.cr_binding.specs.Entities.{is_tag, first_token}
-use Rattle.cr_binding.specs.Resolution.{Thing, Declared, InRecord, BuiltIn}
+use Rattle.cr_binding.specs.Resolution.{Thing, Declared, InRecord, BuiltIn, occurrences}
 
 -- the place of a token, or the token itself where preprocessing made it
 abbrev pub key_by : ℕ → ℕ → Origin → Key
@@ -82,3 +82,11 @@ abbrev pub key_of : ℕ → Source → State → ℕ → Thing → Key
 key_of unit t s i (Declared d) = declaration_key unit t s d
 key_of unit t s i (InRecord m) = member_key unit t s m
 key_of unit t s i BuiltIn = key.Made unit i
+
+-- token i of a unit means something of this key
+abbrev pub HasKey : ℕ → Source → State → ℕ → Key → Type 0
+HasKey unit t s i k = (x : Thing) × Contains (occurrences s) (i, x) × (k ≡ key_of unit t s i x)
+
+-- A token of one unit and a token of another one, or of the same, mean one entity.
+abbrev pub AreLinked : ℕ → Source → State → ℕ → ℕ → Source → State → ℕ → Type 0
+AreLinked unit t s i unit' t' s' j = (k : Key) × HasKey unit t s i k × HasKey unit' t' s' j k

@@ -1,8 +1,8 @@
 -- What each identifier of a unit means: the entity, and the token that declares it first.
-use Rattle.std.specs.Prelude.{ℕ, ◌==◌, Option, Some, None, List, [], ◌∷◌, ◌++◌, filter, map, flat_map}
+use Rattle.std.specs.Prelude.{ℕ, Bool, ◌==◌, Option, Some, None, List, [], ◌∷◌, ◌++◌, filter, map, flat_map}
 use Rattle.std.specs.List.{find}
 use Rattle.cr_binding.specs.Source.{Source}
-use Rattle.cr_binding.specs.State.{Declaration, Member, Use, LookedUp, GoesTo, Selects, IsBuiltIn, State}
+use Rattle.cr_binding.specs.State.{Declaration, Member, Use, LookedUp, GoesTo, Selects, IsBuiltIn, WasAsked, State}
 use Rattle.cr_binding.specs.Entities.{first_token}
 use Rattle.cr_binding.specs.Declaring.{declaration_at}
 
@@ -55,3 +55,11 @@ origin_of t s BuiltIn = None
 -- Each occurrence with the first token that declares its entity; none where the compiler supplies it.
 abbrev pub resolution : Source → State → List (ℕ × Option ℕ)
 resolution t s = map {A = Occurrence} (λ x. (x.0, origin_of t s x.1)) (occurrences s)
+
+abbrev pub answer_of : Use → List (ℕ × Bool)
+answer_of (WasAsked i path before answer) = (i, answer) ∷ []
+answer_of _ = []
+
+-- each token of which it was asked whether it is a typedef name, with the answer
+abbrev pub answers : State → List (ℕ × Bool)
+answers s = flat_map answer_of s.uses

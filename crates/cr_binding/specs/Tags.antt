@@ -39,6 +39,7 @@ record_of _ = None
 
 -- ---- a tag in the present scope
 
+-- the first declaration of it
 abbrev pub tag_here : Source → ℕ → State → Option Declaration
 tag_here t i s = find (is_tag_here t s.present i) s.declarations
 
@@ -77,8 +78,8 @@ untagged i s =
 
 -- ---- a tag that is used
 
--- Any other `struct T` is the visible tag, which has the same keyword, and else declares one in the present scope (6.7.2.3p3,
--- p8).
+-- Any other `struct T` is the visible tag, which must have the same keyword; where none is visible it declares one in the
+-- present scope (6.7.2.3p3, p8).
 abbrev pub used_tag : Option ℕ → Option Declaration → Source → ℕ → State → State
 used_tag k None t i s = tag_again None t i (looked_up space.Tag i None s)
 used_tag k (Some d) t i s =
