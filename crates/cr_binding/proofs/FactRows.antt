@@ -83,7 +83,7 @@ is_captured =
 a_mention_is_captured : Facts 10 1 captured_text (fact.Conflict (key.At (place 25)) (place 49))
 unfolding rule spelled permitted
 a_mention_is_captured =
-    inl (_, mention.Named space.Ordinary (name 1) 21 (Some (decl_no 0)), (Some (decl_no 2), 21), object (1 ∷ []) 10, (captured_path, 4, at (binding captured_source).uses 0 (LookedUp space.Ordinary 21 captured_path 4 (Some 0)) refl, refl, refl), (decl_no 2, refl, inl is_captured), refl, refl, refl)
+    inl (scopes_at captured_source (binding captured_source) captured_path 4, mention.Named space.Ordinary (name 1) 21 (Some (decl_no 0)), (Some (decl_no 2), 21), object (1 ∷ []) 10, (captured_path, 4, at (binding captured_source).uses 0 (LookedUp space.Ordinary 21 captured_path 4 (Some 0)) refl, refl, (refl, refl)), (decl_no 2, refl, inl is_captured), refl, refl, refl)
 
 -- ---- three foo in one text, which has a bar beside each
 
@@ -114,7 +114,7 @@ is_hidden =
 a_mention_is_hidden : Facts 10 1 beside_text (fact.Conflict (key.At (place 24)) (place 44))
 unfolding rule spelled permitted
 a_mention_is_hidden =
-    inl (_, mention.Named space.Ordinary (name 10) 17 (Some (decl_no 2)), (Some (decl_no 2), 17), object (1 ∷ []) 10, (1 ∷ 2 ∷ [], 4, at (binding beside_source).uses 0 (LookedUp space.Ordinary 17 (1 ∷ 2 ∷ []) 4 (Some 2)) refl, refl, refl), (decl_no 2, refl, inr is_hidden), refl, refl, refl)
+    inl (scopes_at beside_source (binding beside_source) (1 ∷ 2 ∷ []) 4, mention.Named space.Ordinary (name 10) 17 (Some (decl_no 2)), (Some (decl_no 2), 17), object (1 ∷ []) 10, (1 ∷ 2 ∷ [], 4, at (binding beside_source).uses 0 (LookedUp space.Ordinary 17 (1 ∷ 2 ∷ []) 4 (Some 2)) refl, refl, (refl, refl)), (decl_no 2, refl, inr is_hidden), refl, refl, refl)
 
 -- the record would have two members bar
 abbrev member : ℕ → ℕ → Member
@@ -147,7 +147,7 @@ are_both_linked =
 two_linked_meet : Facts 10 1 beside_text (fact.Conflict (key.Ext (codes "foo")) (place 81))
 unfolding rule spelled permitted
 two_linked_meet =
-    inl (_, mention.Declared (decl_no 5), (Some (decl_no 5), 33), external kind.Function (Fun Arith) 33, (external kind.Function (Fun Arith) 33, refl, refl), (decl_no 5, 33, refl, inr are_both_linked), refl, refl, refl)
+    inl (scopes_at beside_source (binding beside_source) [] 6, mention.Declared (decl_no 5), (Some (decl_no 5), 33), external kind.Function (Fun Arith) 33, (external kind.Function (Fun Arith) 33, refl, (refl, refl)), (decl_no 5, 33, refl, inr are_both_linked), refl, refl, refl)
 
 -- ---- the parameter foo would be taken for the type name bar
 
@@ -183,7 +183,7 @@ bar_is_a_type =
 a_parameter_becomes_a_type : Facts 9 2 asked_text (fact.Conflict (key.At (place 28)) (place 28))
 unfolding rule spelled permitted
 a_parameter_becomes_a_type =
-    inl (asked_scopes, mention.Asked (name 9) 9 true, (None, 9), object (1 ∷ []) 9, (1 ∷ [], 1, at (binding asked_source).uses 0 (WasAsked 9 (1 ∷ []) 1 false) refl, refl, refl, at (binding asked_source).uses 1 (IsParameter 9) refl), inr (inr (refl, refl, refl, bar_is_a_type)), refl, refl, refl)
+    inl (asked_scopes, mention.Asked (name 9) 9 true, (None, 9), object (1 ∷ []) 9, (1 ∷ [], 1, at (binding asked_source).uses 0 (WasAsked 9 (1 ∷ []) 1 false) refl, refl, (refl, refl), at (binding asked_source).uses 1 (IsParameter 9) refl), inr (inr (refl, refl, refl, bar_is_a_type)), refl, refl, refl)
 
 -- ---- an identifier in the brackets of an attribute, and what is declared beside it
 

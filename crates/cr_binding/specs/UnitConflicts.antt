@@ -23,9 +23,13 @@ place_by site Made = site
 abbrev pub place_at : Source → ℕ → Place
 place_at t i = place_by (token_of t i).site (token_of t i).origin
 
--- The scopes on a path when there were n declarations, as far as conflicts depend on them: not on the scopes that were left.
+-- the scopes on a path when there were n declarations
 abbrev pub scopes_at : Source → State → List ℕ → ℕ → Flat
 scopes_at t s path n = record { scopes = []; present = path; entries = map (entry t) (take n s.declarations) }
+
+-- The same as far as conflicts depend on them: not on the scopes that were left.
+abbrev pub AreScopesAt : Source → State → List ℕ → ℕ → Flat → Type 0
+AreScopesAt t s path n f = (f.present ≡ path) × (f.entries ≡ (scopes_at t s path n).entries)
 
 -- a tag that a mention declares is declared when its conflicts are looked for
 abbrev pub made_by : {A : Type 0} → Option A → ℕ → ℕ
@@ -41,12 +45,12 @@ IsOfAsk s i false = Contains s.uses (IsBuiltIn i)
 abbrev pub Mentions : Source → State → Flat → Mention → Type 0
 Mentions t s f (mention.Named sp name i denoted) =
     (path : List ℕ) × (before : ℕ) × Contains s.uses (LookedUp sp i path before (option_map number denoted))
-    × (name ≡ name_at t i) × (f ≡ scopes_at t s path (made_by denoted before))
+    × (name ≡ name_at t i) × AreScopesAt t s path (made_by denoted before) f
 Mentions t s f (mention.Asked name i parameter) =
     (path : List ℕ) × (before : ℕ) × Contains s.uses (WasAsked i path before false)
-    × (name ≡ name_at t i) × (f ≡ scopes_at t s path before) × IsOfAsk s i parameter
+    × (name ≡ name_at t i) × AreScopesAt t s path before f × IsOfAsk s i parameter
 Mentions t s f (mention.Declared c) =
-    (d : Declaration) × (slice_get s.declarations (number c) ≡ Some d) × (f ≡ scopes_at t s d.path (number c + 1))
+    (d : Declaration) × (slice_get s.declarations (number c) ≡ Some d) × AreScopesAt t s d.path (number c + 1) f
 
 -- the declaration of a pair: that number, or the parameter that the token declares
 abbrev pub declaration_of : State → Pair → Option Declaration
