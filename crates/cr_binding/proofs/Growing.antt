@@ -58,10 +58,10 @@ same s s' d u r w m c e h =
       hidden = extends_itself _ _ h;
     }
 
-itself : (s : State) → Grows s s
+pub itself : (s : State) → Grows s s
 itself s = same s s refl refl refl refl refl refl refl refl
 
-followed : (s x y : State) → Grows s x → Grows x y → Grows s y
+pub followed : (s x y : State) → Grows s x → Grows x y → Grows s y
 followed s x y g h =
     record {
       declarations = extends_on _ _ _ g.declarations h.declarations;
@@ -328,7 +328,7 @@ ended_as_grows n.AssMore children before s =
 ended_as_grows n.SpecsB children before s = if_grows (is_empty children) s _ _ (words_grow s) (itself s)
 ended_as_grows _ children before s = same s _ refl refl refl refl refl refl refl refl
 
-ended_grows : (above m : NonTerm) (children : Trees) (before s : State) → Grows s (ended above m children before s)
+pub ended_grows : (above m : NonTerm) (children : Trees) (before s : State) → Grows s (ended above m children before s)
 ended_grows above m children before s =
     followed s (ended_as m children before s) _ (ended_as_grows m children before s) (same _ _ refl refl refl refl refl refl refl refl)
 

@@ -1,4 +1,5 @@
 mod Asking
+mod Done
 mod FactRows
 mod Growing
 mod Reading

@@ -12,6 +12,7 @@ pub mod MembersStay
 pub mod RecordMembers
 pub mod Resolution
 pub mod Scoping
+pub mod SoundUnits
 pub mod Source
 pub mod Specifying
 pub mod State

@@ -5,6 +5,7 @@
 ghost use Rattle.cr_binding.specs.ActionsStay.{KeepsMeaning, KeepsDeclaration, KeepsTakenLinkage, KeepsUnseenTag, KeepsTagHere, KeepsAskedName, KeepsDeniedAsk};
 ghost use Rattle.cr_binding.specs.BindingGrows.{BindingGrows, FaultStays, ScopesAreTold};
 ghost use Rattle.cr_binding.specs.BindingStays.{BindingStays};
+ghost use Rattle.cr_binding.specs.SoundUnits.{ActionsAreDone};
 ghost use Rattle.cr_binding.specs.Steps.{StepsBind, StepsAreEvents};
 ghost use Rattle.cr_binding.specs.MembersStay.{KeepsSelection, KeepsNewMembers};
 
@@ -32,6 +33,12 @@ pub fn binding_grows()
     ensures lists { BindingGrows }
     ensures fault { FaultStays }
     ensures scopes { ScopesAreTold }
+{}
+
+/// In a unit without a fault every action is done without one, and what it leaves is in the lists in the end. It does
+/// nothing: its contract is the law.
+pub fn actions_are_done()
+    ensures { ActionsAreDone }
 {}
 
 /// Where neither what an action reads nor a declaration before it has a conflict of a renamed declaration, the action
