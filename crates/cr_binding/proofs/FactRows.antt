@@ -147,7 +147,7 @@ are_both_linked =
 two_linked_meet : Facts 10 1 beside_text (fact.Conflict (key.Ext (codes "foo")) (place 81))
 unfolding rule spelled permitted
 two_linked_meet =
-    inl (scopes_at beside_source (binding beside_source) [] 6, mention.Declared (decl_no 5), (Some (decl_no 5), 33), external kind.Function (Fun Arith) 33, (external kind.Function (Fun Arith) 33, refl, (refl, refl)), (decl_no 5, 33, refl, inr are_both_linked), refl, refl, refl)
+    inl (scopes_at beside_source (binding beside_source) [] 6, mention.Declared (decl_no 5), (Some (decl_no 5), 33), external kind.Function (Fun Arith) 33, (omega arith, refl), (decl_no 5, 33, refl, inr are_both_linked), refl, refl, refl)
 
 -- ---- the parameter foo would be taken for the type name bar
 

@@ -1,12 +1,12 @@
 -- Which entities of a unit can't be renamed from one name to another, since something would change its meaning.
-use Rattle.std.specs.Prelude.{◌≡◌, ◌⊎◌, ℕ, ◌+◌, Bool, true, false, ◌==◌, Option, Some, None, option_map, List, [], map, max, take, slice_get, Contains}
+use Rattle.std.specs.Prelude.{◌≡◌, ◌⊎◌, ℕ, ◌+◌, Bool, true, false, ◌==◌, Option, Some, None, option_map, List, [], map, max, take, slice_get, Contains, ◌<◌, length}
 use Rattle.std.specs.List.{find}
 use Rattle.cr_base.specs.declared.token.Name.{Name}
 use Rattle.cr_base.specs.declared.token.Place.{Place}
 use Rattle.cr_base.specs.declared.token.Origin.{Origin}
 use Rattle.cr_base.specs.declared.token.Origin.TheVariants.{At, Made}
 use Rattle.cr_base.specs.declared.key.Key.{Key}
-use Rattle.cr_scope.specs.Declarations.{Flat, number}
+use Rattle.cr_scope.specs.Declarations.{Entry, Flat, number}
 use Rattle.cr_capture.specs.declared.Mention.{Mention}
 use Rattle.cr_capture.specs.declared.Mention.TheVariants as mention
 use Rattle.cr_capture.specs.Conflicts.{Pair, IsConflict}
@@ -23,13 +23,17 @@ place_by site Made = site
 abbrev pub place_at : Source → ℕ → Place
 place_at t i = place_by (token_of t i).site (token_of t i).origin
 
+-- the first n declarations
+abbrev pub entries_at : Source → State → ℕ → List Entry
+entries_at t s n = map (entry t) (take n s.declarations)
+
 -- the scopes on a path when there were n declarations
 abbrev pub scopes_at : Source → State → List ℕ → ℕ → Flat
-scopes_at t s path n = record { scopes = []; present = path; entries = map (entry t) (take n s.declarations) }
+scopes_at t s path n = record { scopes = []; present = path; entries = entries_at t s n }
 
 -- The same as far as conflicts depend on them: not on the scopes that were left.
 abbrev pub AreScopesAt : Source → State → List ℕ → ℕ → Flat → Type 0
-AreScopesAt t s path n f = (f.present ≡ path) × (f.entries ≡ (scopes_at t s path n).entries)
+AreScopesAt t s path n f = (f.present ≡ path) × (f.entries ≡ entries_at t s n)
 
 -- a tag that a mention declares is declared when its conflicts are looked for
 abbrev pub made_by : {A : Type 0} → Option A → ℕ → ℕ
@@ -41,7 +45,7 @@ abbrev pub IsOfAsk : State → ℕ → Bool → Type 0
 IsOfAsk s i true = Contains s.uses (IsParameter i)
 IsOfAsk s i false = Contains s.uses (IsBuiltIn i)
 
--- The unit has this mention, in these scopes.
+-- The unit has this mention, in these scopes. Of a declaration only those up to it matter, not where the scopes are.
 abbrev pub Mentions : Source → State → Flat → Mention → Type 0
 Mentions t s f (mention.Named sp name i denoted) =
     (path : List ℕ) × (before : ℕ) × Contains s.uses (LookedUp sp i path before (option_map number denoted))
@@ -50,7 +54,7 @@ Mentions t s f (mention.Asked name i parameter) =
     (path : List ℕ) × (before : ℕ) × Contains s.uses (WasAsked i path before false)
     × (name ≡ name_at t i) × AreScopesAt t s path before f × IsOfAsk s i parameter
 Mentions t s f (mention.Declared c) =
-    (d : Declaration) × (slice_get s.declarations (number c) ≡ Some d) × AreScopesAt t s d.path (number c + 1) f
+    (number c < length s.declarations) × (f.entries ≡ entries_at t s (number c + 1))
 
 -- the declaration of a pair: that number, or the parameter that the token declares
 abbrev pub declaration_of : State → Pair → Option Declaration
