@@ -33,7 +33,7 @@ typedef_kind kind.Member h = cc
 typedef_kind kind.Label h = cc
 
 -- the declaration that an entry is of
-declaration_of : (t : Source) (ds : List Declaration) (i : ℕ) (e : Entry) → slice_get (map (entry t) ds) i ≡ Some e → (d : Declaration) × (slice_get ds i ≡ Some d) × (entry t d ≡ e)
+pub declaration_of : (t : Source) (ds : List Declaration) (i : ℕ) (e : Entry) → slice_get (map (entry t) ds) i ≡ Some e → (d : Declaration) × (slice_get ds i ≡ Some d) × (entry t d ≡ e)
 declaration_of t [] i e h = cc
 declaration_of t (d ∷ ds) zero e h = let k : entry t d ≡ e = cc in (d, refl, k)
 declaration_of t (d ∷ ds) (suc i) e h = declaration_of t ds i e h

@@ -1,6 +1,7 @@
 mod Asking
 mod Done
 mod FactRows
+mod Free
 mod Growing
 mod Reading
 mod Renaming

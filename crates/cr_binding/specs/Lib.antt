@@ -6,6 +6,7 @@ pub mod BindingStays
 pub mod Declaring
 pub mod Entities
 pub mod Expressions
+pub mod FreeUnits
 pub mod Initialising
 pub mod Keys
 pub mod MembersStay

@@ -5,6 +5,7 @@
 ghost use Rattle.cr_binding.specs.ActionsStay.{KeepsMeaning, KeepsDeclaration, KeepsTakenLinkage, KeepsUnseenTag, KeepsTagHere, KeepsAskedName, KeepsDeniedAsk};
 ghost use Rattle.cr_binding.specs.BindingGrows.{BindingGrows, FaultStays, ScopesAreTold};
 ghost use Rattle.cr_binding.specs.BindingStays.{BindingStays};
+ghost use Rattle.cr_binding.specs.FreeUnits.{MentionsAreFree, NewTagsAreFree, AsksAreFree, DeclarationsAreFree, AllAreFree};
 ghost use Rattle.cr_binding.specs.SoundUnits.{ActionsAreDone};
 ghost use Rattle.cr_binding.specs.Steps.{StepsBind, StepsAreEvents};
 ghost use Rattle.cr_binding.specs.MembersStay.{KeepsSelection, KeepsNewMembers};
@@ -74,4 +75,14 @@ pub fn renaming_keeps_what_is_asked()
 pub fn renaming_keeps_members()
     ensures selection { KeepsSelection }
     ensures members { KeepsNewMembers }
+{}
+
+/// Where no conflict of a unit is one of a renamed entity, none of its mentions has one in the scopes in which it stands.
+/// It does nothing: its contract is the law.
+pub fn free_units_have_free_mentions()
+    ensures mentions { MentionsAreFree }
+    ensures tags { NewTagsAreFree }
+    ensures asks { AsksAreFree }
+    ensures declarations { DeclarationsAreFree }
+    ensures all { AllAreFree }
 {}
