@@ -1,0 +1,12 @@
+mod Asking
+mod Done
+mod FactRows
+mod Free
+mod Growing
+mod Reading
+mod Renaming
+mod Rows
+mod Selecting
+mod Staying
+mod Stepping
+mod Tagging
