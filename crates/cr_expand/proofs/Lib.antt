@@ -51,3 +51,4 @@ pub mod Fresh
 pub mod RunsOn
 pub mod RunLaw
 pub mod Defined
+pub mod Hungry

@@ -1,5 +1,5 @@
 -- A machine runs on as names are put into the table.
-use Rattle.std.proofs.Common.{◌≡◌, ℕ, ◌-◌, List, refl, sym, subst, ◌∙◌, Option, Some, None, inl, inr}
+use Rattle.std.proofs.Common.{◌≡◌, ℕ, ◌-◌, List, refl, subst, ◌∙◌, Option, Some, None, inl, inr}
 use Rattle.std.proofs.lemmas.List.Elements.{All-drop}
 use Rattle.cr_base.specs.NameTable.{IsDistinct}
 use Rattle.cr_macros.specs.declared.fault.ExpandFault.{ExpandFault}

@@ -10,7 +10,7 @@ use Rattle.cr_macros.specs.MacroTables.{Macros}
 use Rattle.cr_expand.specs.Held.{noted, watch_of}
 use Rattle.cr_expand.specs.Slots.{ends}
 use Rattle.cr_expand.specs.Frames.{Call}
-use Rattle.cr_expand.specs.Machines.{total, still, ahead, IsMachine, IsUse, IsStep, IsAhead, FaultsAtOnce, BothFault, IsTurnStep, IsWantedAt, IsTurnWanted, IsSameRun}
+use Rattle.cr_expand.specs.Machines.{total, still, ahead, IsMachine, IsUse, IsStep, IsAhead, FaultsAtOnce, BothFault, IsTurnStep, IsWantedAt, IsTurnWanted, WantsMore, IsSameRun}
 use Rattle.cr_expand.proofs.Noted.{same_watch}
 
 -- The machine gives what it gave at first; it is as it was, or a call waits.
@@ -22,6 +22,13 @@ pub record IsSilent (names new : List Text) (macros : Macros) (first now : Machi
   pub same : IsSameRun first now
   pub machine : IsMachine names macros now
   pub waits : (now ≡ first) ⊎ (0 < ends now.slots.items)
+
+-- Where a token is wanted at first, no turn was made.
+abbrev pub IsFirst : List Text → List Text → Macros → Machine → Machine → Type 0
+IsFirst names at macros first mid = WantsMore names macros first → (at ≡ names) × (mid ≡ first)
+
+pub still_wants : (names at : List Text) (macros : Macros) (first mid : Machine) → IsFirst names at macros first mid → WantsMore names macros first → WantsMore at macros mid
+still_wants names at macros first mid k w = subst (λ m. WantsMore at macros m) (sym (k w).1) (subst (λ n. WantsMore n macros first) (sym (k w).0) w)
 
 pub silent_first : (names : List Text) (macros : Macros) (m : Machine) → IsMachine names macros m → IsSilent names names macros m m
 silent_first names macros m k = record { gives = λ more q. refl; finds = λ more q. refl; seen = refl; names_same = refl; same = (refl, refl, refl, refl); machine = k; waits = inl refl }

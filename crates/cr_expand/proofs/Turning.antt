@@ -172,4 +172,4 @@ wanting_by names sets finished slots rest h f g t e x k =
       by (turn.Predefined y p) k = tt
       by (turn.Object y m) k = tt
       by (turn.Call y m c n) k = tt
-      by (turn.Unclosed site) k = tt
+      by (turn.Unclosed site) k = k

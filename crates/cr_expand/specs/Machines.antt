@@ -277,13 +277,16 @@ FaultsAtOnce (Stopped cause stopped) e = (IsCause cause e × (uses stopped ≡ 0
 abbrev pub BothFault : List Text → Macros → Machine → List Token → ExpandFault → Type 0
 BothFault names macros m more e = FaultsAtOnce (still names macros m more) e × FaultsAtOnce (ahead names macros m more) e
 
--- A token is wanted only where no call waits, no more were said to be the last, and the next use can't be told without it; the
--- end is only where all is used.
+-- The next use of a rule can't be told without a token that may come: no call waits, and no more were said to be the last.
+abbrev pub WantsMore : List Text → Macros → Machine → Type 0
+WantsMore names macros m =
+    (m.finished ≡ false) × (m.frames.items ≡ []) × (needs_more (table_of names macros (text_of names m.file)) (current (pieces names m.sets m.slots.items)) ≡ true)
+
+-- A token is wanted only there, and the end is only where all is used.
 abbrev pub IsWantedAt : List Text → Macros → Machine → ExpStep → Type 0
 IsWantedAt names macros m (step.Out t) = Unit {0}
 IsWantedAt names macros m step.More = Unit {0}
-IsWantedAt names macros m step.Hungry =
-    (m.finished ≡ false) × (m.frames.items ≡ []) × (needs_more (table_of names macros (text_of names m.file)) (current (pieces names m.sets m.slots.items)) ≡ true)
+IsWantedAt names macros m step.Hungry = WantsMore names macros m
 IsWantedAt names macros m step.End = (m.finished ≡ true) × (m.frames.items ≡ []) × (m.slots.items ≡ [])
 
 -- the same at a turn; a turn that makes no step leaves a call that waits

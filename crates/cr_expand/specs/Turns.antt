@@ -1,5 +1,5 @@
 -- What comes next in an expansion, with names and hide sets by number.
-use Rattle.std.specs.Prelude.{◌≡◌, ℕ, ◌+◌, ◌<◌, ◌^◌, Bool, true, false, List, [], ◌∷◌, ◌++◌, length, map, Some}
+use Rattle.std.specs.Prelude.{◌≡◌, ◌⊎◌, ℕ, ◌+◌, ◌<◌, ◌^◌, Bool, true, false, List, [], ◌∷◌, ◌++◌, length, map, Some}
 use Rattle.cr_base.specs.declared.token.Name.{Name}
 use Rattle.cr_macros.specs.declared.macros.Macro.{Macro}
 use Rattle.cr_expand.specs.declared.held.Held.{Held}
@@ -70,8 +70,8 @@ IsNext names sets macros file (slot.End ∷ slots) more t = IsTurn names sets fi
 IsNext names sets macros file (slot.Token h ∷ slots) more t =
     IsTurn names sets file (slot.Token h ∷ slots) more (use_of (table_of names macros file) (held names sets h)) t × IsTurnOf macros h t
 
--- More tokens are wanted only where no more were said to come, where nothing is parted, and where the head's use can't be told
--- without them; the end is only where no more come.
+-- More tokens are wanted only where more may come, where nothing is parted, and where the head's use can't be told without
+-- them; the end is only where no more come, and a call is open only there or before the end of a part.
 abbrev pub IsWanting : List Text → Sets → Bool → List Slot → (Held → List Token → Use) → Turn → Type 0
 IsWanting names sets finished [] use_at turn.Hungry = finished ≡ false
 IsWanting names sets finished (slot.End ∷ slots) use_at turn.Hungry = ⊥
@@ -83,4 +83,4 @@ IsWanting names sets finished slots use_at (turn.Stays h) = Unit {0}
 IsWanting names sets finished slots use_at (turn.Predefined h p) = Unit {0}
 IsWanting names sets finished slots use_at (turn.Object h m) = Unit {0}
 IsWanting names sets finished slots use_at (turn.Call h m count n) = Unit {0}
-IsWanting names sets finished slots use_at (turn.Unclosed site) = Unit {0}
+IsWanting names sets finished slots use_at (turn.Unclosed site) = (finished ≡ true) ⊎ (0 < ends slots)

@@ -1,12 +1,12 @@
 //! The machine of macro expansion, which is fed and stepped.
-ghost use Rattle.std.specs.Prelude.{◌≡◌, ◌<◌, ◌≤◌, ◌^◌, ◌+◌, ◌++◌, [], List, OnOk, OnErr, IfOk, IfErr, Some, None, Err, length, replicate, map, true, false};
+ghost use Rattle.std.specs.Prelude.{◌≡◌, ◌<◌, ◌≤◌, ◌^◌, ◌+◌, ◌++◌, [], List, OnOk, OnErr, IfOk, IfErr, Some, None, Ok, Err, ◌⊎◌, length, replicate, map, true, false};
 ghost use Rattle.cr_macros.specs.declared.fault.ExpandFault.{ExpandFault as TheFault};
 ghost use Rattle.cr_macros.specs.Tokens.{Text, Token};
 ghost use Rattle.cr_macros.specs.MacroTables.{Macros};
 ghost use Rattle.cr_expand.specs.HideSets.{Grows};
 ghost use Rattle.cr_expand.specs.Ahead.{NextFollowsTheRules};
 ghost use Rattle.cr_expand.specs.Feeding.{IsPutBack};
-ghost use Rattle.cr_expand.specs.Machines.{AreMacros, IsStep, IsAhead, FaultsAtOnce, IsWantedAt, IsOutKnown, IsSameRun, ahead};
+ghost use Rattle.cr_expand.specs.Machines.{AreMacros, IsStep, IsAhead, FaultsAtOnce, IsWantedAt, WantsMore, IsOutKnown, IsSameRun, ahead};
 ghost use Rattle.cr_expand.specs.Expanders.{left_over, IsRunning, IsFresh, IsFed, Steps, RunsOn, GivesTheExpansion};
 
 use crate::closing::Ahead;
@@ -119,6 +119,7 @@ impl Expander {
         requires running { IsRunning names.old macros.now self.old }
         ensures step { self.old.fault ≡ None → IfOk result (λ s. Steps names.old names.new macros.now self.old self.new s) }
         ensures wanted { self.old.fault ≡ None → IfOk result (λ s. IsWantedAt names.old macros.now self.old.machine s) }
+        ensures wants { self.old.fault ≡ None → WantsMore names.old macros.now self.old.machine → (result ≡ Ok ExpStep.Hungry) ⊎ (result ≡ Err ExpandFault.OutOfMemory) }
         ensures faults { self.old.fault ≡ None → (more : List Token) → (self.old.machine.finished ≡ true → more ≡ []) → IfErr result (λ e. FaultsAtOnce (left_over names.old macros.now self.old more) e) }
         ensures ahead { self.old.fault ≡ None → (more : List Token) → (self.old.machine.finished ≡ true → more ≡ []) → IfOk result (λ s. IsAhead names.old names.new macros.now self.old.machine self.new.machine more s) }
         ensures ahead_faults { self.old.fault ≡ None → (more : List Token) → (self.old.machine.finished ≡ true → more ≡ []) → IfErr result (λ e. FaultsAtOnce (ahead names.old macros.now self.old.machine more) e) }

@@ -1,5 +1,5 @@
 //! The uses of the rules of macro expansion, one after another.
-ghost use Rattle.std.specs.Prelude.{◌≡◌, ◌<◌, ◌≤◌, ◌+◌, ◌-◌, ◌^◌, ◌*◌, ◌++◌, ◌∷◌, [], List, IfOk, IfErr, IfSome, OnOk, length, map, drop, ◌⊎◌, MatchResult, if◌then◌else◌, true, None};
+ghost use Rattle.std.specs.Prelude.{◌≡◌, ◌<◌, ◌≤◌, ◌+◌, ◌-◌, ◌^◌, ◌*◌, ◌++◌, ◌∷◌, [], List, IfOk, IfErr, IfSome, OnOk, length, map, drop, ◌⊎◌, MatchResult, if◌then◌else◌, true, None, Some, Ok, Err};
 ghost use Rattle.std.specs.List.{All};
 ghost use Rattle.cr_macros.specs.Tokens.{Text, Token, with_name};
 ghost use Rattle.cr_macros.specs.MacroTables.{macro_text};
@@ -18,7 +18,7 @@ ghost use Rattle.cr_expand.specs.Calls.{IsCallAt, IsSearched};
 ghost use Rattle.cr_expand.specs.Groups.{AreNoted, Leaves};
 ghost use Rattle.cr_expand.specs.HideSets.{Grows};
 ghost use Rattle.cr_expand.specs.Wanted.{is_marked_whole};
-ghost use Rattle.cr_expand.specs.Machines.{IsGiven, IsPut, IsSameRun, IsSameElsewhere, IsPredefinedUse, IsClosedAt, IsEntered, IsCallHeld, IsMachine, IsArgumentEnd, IsArgumentFault, BeginsWithEnd, AreMacros, put_for_call, AreTaken, IsMiscounted, IsTurnStep, IsTurnWanted, IsStep, IsAhead, BothFault, IsWantedAt, IsOutKnown};
+ghost use Rattle.cr_expand.specs.Machines.{IsGiven, IsPut, IsSameRun, IsSameElsewhere, IsPredefinedUse, IsClosedAt, IsEntered, IsCallHeld, IsMachine, IsArgumentEnd, IsArgumentFault, BeginsWithEnd, AreMacros, put_for_call, AreTaken, IsMiscounted, IsTurnStep, IsTurnWanted, IsStep, IsAhead, BothFault, IsWantedAt, WantsMore, IsOutKnown};
 
 use crate::closing::{Ahead, Search};
 use crate::frame::Frame;
@@ -363,6 +363,7 @@ impl Machine {
         requires noted { AreNoted names.old self.old.slots.items ahead.old.groups.items }
         ensures step { (more : List Token) → (self.old.finished ≡ true → more ≡ []) → IfOk result (λ o. IsTurnStep names.old names.new macros.now self.old self.new more o) }
         ensures wanted { IfOk result (λ o. IsTurnWanted names.old names.new macros.now self.old self.new o) }
+        ensures wants { WantsMore names.old macros.now self.old → result ≡ Ok (Some ExpStep.Hungry) }
         ensures faults { (more : List Token) → (self.old.finished ≡ true → more ≡ []) → IfErr result (λ e. BothFault names.old macros.now self.old more e) }
         ensures machine { OnOk result (IsMachine names.new macros.now self.new) }
         ensures search { OnOk result (IsSearched names.new self.new.slots.items ahead.new.search) }
@@ -424,6 +425,7 @@ impl Machine {
         ensures step { (more : List Token) → (self.old.finished ≡ true → more ≡ []) → IfOk result (λ s. IsStep names.old names.new macros.now self.old self.new more s) }
         ensures ahead { (more : List Token) → (self.old.finished ≡ true → more ≡ []) → IfOk result (λ s. IsAhead names.old names.new macros.now self.old self.new more s) }
         ensures wanted { IfOk result (λ s. IsWantedAt names.old macros.now self.old s) }
+        ensures wants { WantsMore names.old macros.now self.old → (result ≡ Ok ExpStep.Hungry) ⊎ (result ≡ Err ExpandFault.OutOfMemory) }
         ensures faults { (more : List Token) → (self.old.finished ≡ true → more ≡ []) → IfErr result (λ e. BothFault names.old macros.now self.old more e) }
         ensures machine { OnOk result (IsMachine names.new macros.now self.new) }
         ensures search { OnOk result (IsSearched names.new self.new.slots.items ahead.new.search) }

@@ -2,6 +2,7 @@ use Rattle.std.proofs.Common.{◌-◌, ◌≤◌, [], drop, refl, sym, ap, subst
 use Rattle.std.proofs.lemmas.Result.{err_from_is_err_and}
 use Rattle.cr_expand.specs.declared.machine.TheConstants.{LIMIT}
 use Rattle.cr_expand.specs.declared.slot.Slot.TheVariants as slot
+use Rattle.cr_expand.specs.declared.turn.Turn.TheVariants as turn
 use Rattle.cr_macros.specs.Definition.{text_of}
 use Rattle.cr_macros.specs.Expansion.{predefined_token, use_of}
 use Rattle.cr_expand.specs.Held.{held, AreTables, IsKnown}
@@ -17,6 +18,7 @@ use Rattle.cr_expand.proofs.Wants.{next_finish, no_calls, end_gives, end_ahead, 
 use Rattle.cr_macros.specs.MacroTables.{table_of}
 use Rattle.cr_expand.specs.Slots.{ends, tokens}
 use Rattle.cr_expand.proofs.Lefts.{leaves_front, leaves_same, leaves_ended, leaves_entered}
+use Rattle.cr_expand.proofs.Hungry.{only_hungry}
 use Rattle.cr_expand.proofs.Keeping.{gives_machine, object_machine}
 use Rattle.cr_expand.proofs.machine.Machine.turn.Goals as goal
 
@@ -250,3 +252,39 @@ returns-in_ok-enter-in-Call-clause-leaves c =
     let u = next_call c.args.names.now c.args.self.now.sets c.args.macros.now (text_of c.args.names.now c.args.self.now.file) [] c.args.self.now.slots.items c.in-Call.h c.in-Call.m c.in-Call.count c.in-Call.close (c.in-Call.ensures.means (text_of c.args.names.now c.args.self.now.file) [] (λ _. refl)) in
     let i = c.in_ok-enter-in-Call.ensures.entered (slot.Token c.in-Call.h) (slot.Token u.0.opens) u.0.inside u.0.closes u.0.rest u.0.params u.0.slots_are u.0.place u.0.macro_params u.0.counts in
     leaves_entered c.args.names.now c.args.self.now c.enter.new.self c.in-Call.h c.in-Call.m.now [] c.in-Call.count c.in-Call.close _ u.0 i
+
+pub returns-in_ok-step-in-ArgumentEnd-clause-wants : goal.returns-in_ok-step-in-ArgumentEnd-clause-wants
+returns-in_ok-step-in-ArgumentEnd-clause-wants c = λ w. absurd (only_hungry c.args.names.now c.args.macros.now c.args.self.now turn.ArgumentEnd c.requires.machine (c.in-ArgumentEnd.ensures.means (text_of c.args.names.now c.args.self.now.file)) (c.in-ArgumentEnd.ensures.wanting (text_of c.args.names.now c.args.self.now.file)) w refl)
+
+pub returns-in_err-step-in-ArgumentEnd-clause-wants : goal.returns-in_err-step-in-ArgumentEnd-clause-wants
+returns-in_err-step-in-ArgumentEnd-clause-wants c = λ w. absurd (only_hungry c.args.names.now c.args.macros.now c.args.self.now turn.ArgumentEnd c.requires.machine (c.in-ArgumentEnd.ensures.means (text_of c.args.names.now c.args.self.now.file)) (c.in-ArgumentEnd.ensures.wanting (text_of c.args.names.now c.args.self.now.file)) w refl)
+
+pub returns-in_ok-step-in-Stays-clause-wants : goal.returns-in_ok-step-in-Stays-clause-wants
+returns-in_ok-step-in-Stays-clause-wants c = λ w. absurd (only_hungry c.args.names.now c.args.macros.now c.args.self.now (turn.Stays c.in-Stays.h) c.requires.machine (c.in-Stays.ensures.means (text_of c.args.names.now c.args.self.now.file)) (c.in-Stays.ensures.wanting (text_of c.args.names.now c.args.self.now.file)) w refl)
+
+pub returns-in_err-step-in-Stays-clause-wants : goal.returns-in_err-step-in-Stays-clause-wants
+returns-in_err-step-in-Stays-clause-wants c = λ w. absurd (only_hungry c.args.names.now c.args.macros.now c.args.self.now (turn.Stays c.in-Stays.h) c.requires.machine (c.in-Stays.ensures.means (text_of c.args.names.now c.args.self.now.file)) (c.in-Stays.ensures.wanting (text_of c.args.names.now c.args.self.now.file)) w refl)
+
+pub returns-in_ok-step-in-Predefined-clause-wants : goal.returns-in_ok-step-in-Predefined-clause-wants
+returns-in_ok-step-in-Predefined-clause-wants c = λ w. absurd (only_hungry c.args.names.now c.args.macros.now c.args.self.now (turn.Predefined c.in-Predefined.h c.in-Predefined.p) c.requires.machine (c.in-Predefined.ensures.means (text_of c.args.names.now c.args.self.now.file)) (c.in-Predefined.ensures.wanting (text_of c.args.names.now c.args.self.now.file)) w refl)
+
+pub returns-in_err-step-in-Predefined-clause-wants : goal.returns-in_err-step-in-Predefined-clause-wants
+returns-in_err-step-in-Predefined-clause-wants c = λ w. absurd (only_hungry c.args.names.now c.args.macros.now c.args.self.now (turn.Predefined c.in-Predefined.h c.in-Predefined.p) c.requires.machine (c.in-Predefined.ensures.means (text_of c.args.names.now c.args.self.now.file)) (c.in-Predefined.ensures.wanting (text_of c.args.names.now c.args.self.now.file)) w refl)
+
+pub returns-in_ok-step-in-Object-clause-wants : goal.returns-in_ok-step-in-Object-clause-wants
+returns-in_ok-step-in-Object-clause-wants c = λ w. absurd (only_hungry c.args.names.now c.args.macros.now c.args.self.now (turn.Object c.in-Object.h c.in-Object.m) c.requires.machine (c.in-Object.ensures.means (text_of c.args.names.now c.args.self.now.file)) (c.in-Object.ensures.wanting (text_of c.args.names.now c.args.self.now.file)) w refl)
+
+pub returns-in_err-step-in-Object-clause-wants : goal.returns-in_err-step-in-Object-clause-wants
+returns-in_err-step-in-Object-clause-wants c = λ w. absurd (only_hungry c.args.names.now c.args.macros.now c.args.self.now (turn.Object c.in-Object.h c.in-Object.m) c.requires.machine (c.in-Object.ensures.means (text_of c.args.names.now c.args.self.now.file)) (c.in-Object.ensures.wanting (text_of c.args.names.now c.args.self.now.file)) w refl)
+
+pub returns-in_ok-enter-in-Call-clause-wants : goal.returns-in_ok-enter-in-Call-clause-wants
+returns-in_ok-enter-in-Call-clause-wants c = λ w. absurd (only_hungry c.args.names.now c.args.macros.now c.args.self.now (turn.Call c.in-Call.h c.in-Call.m c.in-Call.count c.in-Call.close) c.requires.machine (c.in-Call.ensures.means (text_of c.args.names.now c.args.self.now.file)) (c.in-Call.ensures.wanting (text_of c.args.names.now c.args.self.now.file)) w refl)
+
+pub returns-in_err-enter-in-Call-clause-wants : goal.returns-in_err-enter-in-Call-clause-wants
+returns-in_err-enter-in-Call-clause-wants c = λ w. absurd (only_hungry c.args.names.now c.args.macros.now c.args.self.now (turn.Call c.in-Call.h c.in-Call.m c.in-Call.count c.in-Call.close) c.requires.machine (c.in-Call.ensures.means (text_of c.args.names.now c.args.self.now.file)) (c.in-Call.ensures.wanting (text_of c.args.names.now c.args.self.now.file)) w refl)
+
+pub returns-in-End-clause-wants : goal.returns-in-End-clause-wants
+returns-in-End-clause-wants c = λ w. absurd (only_hungry c.args.names.now c.args.macros.now c.args.self.now turn.End c.requires.machine (c.in-End.ensures.means (text_of c.args.names.now c.args.self.now.file)) (c.in-End.ensures.wanting (text_of c.args.names.now c.args.self.now.file)) w refl)
+
+pub returns-in-Unclosed-clause-wants : goal.returns-in-Unclosed-clause-wants
+returns-in-Unclosed-clause-wants c = λ w. absurd (only_hungry c.args.names.now c.args.macros.now c.args.self.now (turn.Unclosed c.in-Unclosed.site) c.requires.machine (c.in-Unclosed.ensures.means (text_of c.args.names.now c.args.self.now.file)) (c.in-Unclosed.ensures.wanting (text_of c.args.names.now c.args.self.now.file)) w refl)
