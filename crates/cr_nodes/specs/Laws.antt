@@ -1,0 +1,42 @@
+-- What runs of the moves are: the steps of trees.
+use Rattle.std.specs.Prelude.{◌≡◌, ℕ, Bool, List, [], ◌∷◌, ◌++◌}
+use Rattle.cr_grammar.specs.declared.symbols.NonTerm.{NonTerm}
+use Rattle.cr_grammar.specs.declared.symbols.Action.{Action}
+use Rattle.cr_ll.specs.Guards.{Terminal}
+use Rattle.cr_ll.specs.Derivation.{Item, Passed, Due, Asked, Trees, Derives, events}
+use Rattle.cr_ll.specs.Laws.{unit}
+use Rattle.cr_binding.specs.Steps.{Step, Opens, Passes, Acts, Closes, steps}
+use Rattle.cr_nodes.specs.Moves.{OpenNodes, at_start, Move, OpensTo, ClosesTo, Gives, AsksAt, Ends, Faults, move, replied}
+use Rattle.cr_nodes.specs.Gathering.{Gathered, at_first, asking, passing, acting, opening, closing}
+
+-- A run is given events, makes these steps, and gathers trees on the way; an ask is counted with its reply.
+pub data Run (ts : List Terminal) : OpenNodes → Gathered → List Item → List Step → OpenNodes → Gathered → Type 0 where
+  stop : {c : OpenNodes} {g : Gathered} → Run ts c g [] [] c g
+  opens : {c d e : OpenNodes} {g h : Gathered} {m : NonTerm} {es : List Item} {xs : List Step} → move ts c ≡ OpensTo m d → Run ts d (opening m g) es xs e h → Run ts c g es (Opens m g.asks ∷ xs) e h
+  closes : {c d e : OpenNodes} {g h : Gathered} {es : List Item} {xs : List Step} → move ts c ≡ ClosesTo d → Run ts d (closing g) es xs e h → Run ts c g es (Closes g.inner.children ∷ xs) e h
+  passes : {c d e : OpenNodes} {g h : Gathered} {i : ℕ} {es : List Item} {xs : List Step} → move ts c ≡ Gives (Passed i) d → Run ts d (passing i g) es xs e h → Run ts c g (Passed i ∷ es) (Passes i ∷ xs) e h
+  acts : {c d e : OpenNodes} {g h : Gathered} {x : Action} {es : List Item} {xs : List Step} → move ts c ≡ Gives (Due x) d → Run ts d (acting x g) es xs e h → Run ts c g (Due x ∷ es) (Acts x ∷ xs) e h
+  asks : {c d e : OpenNodes} {g h : Gathered} {i : ℕ} {es : List Item} {xs : List Step} (answer : Bool) → move ts c ≡ AsksAt i d → Run ts (replied answer d) (asking i answer g) es xs e h → Run ts c g (Asked i answer ∷ es) xs e h
+
+-- a move waits for the first of these events, or for none yet
+abbrev pub Awaits : List Item → Move → Type 0
+Awaits es (OpensTo m d) = Unit {0}
+Awaits es (ClosesTo d) = Unit {0}
+Awaits es (Gives x d) = (more : List Item) × (es ≡ x ∷ more)
+Awaits es (AsksAt i d) = (answer : Bool) × (more : List Item) × (es ≡ Asked i answer ∷ more)
+Awaits es Ends = es ≡ []
+Awaits es Faults = ⊥
+
+-- Given the first events of a tree, a run makes the first steps of the tree, and then it waits for the next event.
+abbrev pub StepsAreATrees : Type 0
+StepsAreATrees =
+    (ts : List Terminal) (tree : Trees) (j : ℕ) (es more : List Item) (xs : List Step) (c : OpenNodes) (g : Gathered)
+    → Derives ts tree 0 unit j → events tree ≡ es ++ more → Run ts at_start at_first es xs c g
+    → ((rest : List Step) × (steps tree ≡ xs ++ rest)) × Awaits more (move ts c)
+
+-- At the end all steps of the tree were made, and the tree is gathered.
+abbrev pub AllStepsAreMade : Type 0
+AllStepsAreMade =
+    (ts : List Terminal) (tree : Trees) (j : ℕ) (es more : List Item) (xs : List Step) (c : OpenNodes) (g : Gathered)
+    → Derives ts tree 0 unit j → events tree ≡ es ++ more → Run ts at_start at_first es xs c g → move ts c ≡ Ends
+    → (more ≡ []) × (xs ≡ steps tree) × (g.inner.children ≡ tree)

@@ -1,0 +1,10 @@
+//! What runs of the moves are: laws of the definitions. Each function does nothing; its contract is
+//! the law.
+ghost use Rattle.cr_nodes.specs.Laws.{StepsAreATrees, AllStepsAreMade};
+
+/// Given the first events of a tree, the nodes make its first steps, and wait for its next event; and
+/// at the end they have made all.
+pub fn steps_are_a_trees()
+    ensures fronts { StepsAreATrees }
+    ensures whole { AllStepsAreMade }
+{}

@@ -1,0 +1,8 @@
+//! The open nodes of a translation unit, found from the events of its tree.
+#![tactic(auto)]
+
+mod guards;
+mod laws;
+mod pending;
+
+pub use laws::steps_are_a_trees;
