@@ -1,3 +1,3 @@
-pub mod Rows
+pub mod Alternatives
 pub mod Whole
 pub mod Onward

@@ -16,7 +16,7 @@ use Rattle.cr_nodes.specs.declared.pending.Pending.TheVariants as pending
 use Rattle.cr_nodes.specs.Moves.{Row, row, OpenNodes, at, Gives, opens_by, by_choice, passes_by, body_of}
 use Rattle.cr_nodes.specs.Gathering.{Branch, Gathered, gathered, followed_by, opening, closing}
 use Rattle.cr_nodes.specs.Laws.{Run, stop, opens, closes, passes, acts, asks}
-use Rattle.cr_nodes.proofs.Rows.{body_first}
+use Rattle.cr_nodes.proofs.Alternatives.{body_first}
 
 pub followed_on : (f g h : Trees) → followed_by (followed_by f g) h ≡ followed_by f (followed_by g h)
 followed_on none g h = refl

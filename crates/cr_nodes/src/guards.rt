@@ -2,12 +2,13 @@
 ghost use Rattle.std.specs.Prelude.{◌≡◌, ◌+◌, ◌-◌, ◌^◌, ◌≤◌, ◌<◌, [], drop, length, IsTrue, ◌↔◌, slice_index_or};
 ghost use Rattle.cr_grammar.specs.Grammar.{rule};
 ghost use Rattle.cr_ll.specs.declared.guards.Verdict.TheVariants as verdicts;
-ghost use Rattle.cr_ll.specs.Guards.{token_at, terminal, terminals, fits, meets, verdict, choice};
+ghost use Rattle.cr_ll.specs.Guards.{token_at, terminal, terminals, fits, meets, verdict, choice, IsWithin};
 ghost use Rattle.cr_ll.specs.Guards as spec;
-ghost use Rattle.cr_nodes.specs.Seen.{seen, seen_verdict, seen_choice};
+ghost use Rattle.cr_nodes.specs.Seen.{seen, seen_verdict, seen_choice, seen_body};
+ghost use Rattle.cr_nodes.specs.Moves.{body_of};
 
 use cr_base::{Name, NameTable, Tok, TokKind};
-use cr_grammar::{Guard, NonTerm, Term, alternatives, spellings};
+use cr_grammar::{Guard, NonTerm, Symbol, Term, alternatives, spellings};
 
 // A token's kind and its spelling.
 #[derive(Clone, Copy)]
@@ -188,7 +189,8 @@ fn verdict_of(guard: Guard, x: Lexeme, y: Lexeme) -> Verdict
 
 // The first alternative from number `from` on whose guard doesn't fail.
 pub fn choose(n: NonTerm, from: usize, x: Lexeme, y: Lexeme) -> Choice
-    ensures { seen_choice result ≡ choice from (drop from (rule n)) (seen x.entry) (seen y.entry) }
+    ensures first { seen_choice result ≡ choice from (drop from (rule n)) (seen x.entry) (seen y.entry) }
+    ensures short { IsWithin (seen_choice result) (2 ^ 64 - 1) }
 {
     let rows = alternatives(n);
     for i in from..rows.len() {
@@ -199,4 +201,16 @@ pub fn choose(n: NonTerm, from: usize, x: Lexeme, y: Lexeme) -> Choice
         }
     }
     Choice::Nothing
+}
+
+// The symbols of the alternative number k.
+pub fn body_at(n: NonTerm, k: usize) -> Option<&'static [Symbol]>
+    ensures { seen_body result ≡ body_of n k }
+{
+    let rows = alternatives(n);
+    if k < rows.len() {
+        Some(rows[k].body)
+    } else {
+        None
+    }
 }

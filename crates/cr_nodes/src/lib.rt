@@ -3,6 +3,8 @@
 
 mod guards;
 mod laws;
+mod nodes;
 mod pending;
+mod rows;
 
 pub use laws::steps_are_a_trees;
