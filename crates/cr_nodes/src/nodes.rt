@@ -1,8 +1,9 @@
 //! The open nodes, which are led on by the events of the grammar's machine.
-ghost use Rattle.std.specs.Prelude.{◌≡◌, ◌≤◌, ◌<◌, ◌^◌, ◌∷◌, ◌↔◌, IsTrue, Some, length};
+ghost use Rattle.std.specs.Prelude.{◌≡◌, ◌+◌, ◌-◌, ◌≤◌, ◌<◌, ◌^◌, ◌∷◌, ◌↔◌, IsTrue, Some, drop, length};
+ghost use Rattle.cr_grammar.specs.Grammar.{rule};
+ghost use Rattle.cr_ll.specs.Derivation.{Due};
 ghost use Rattle.cr_ll.specs.Guards.{terminals, token_at, meets, choice};
-ghost use Rattle.cr_nodes.specs.Moves.{at_start, row, body_of, AsksAt, opens_by, by_choice, by_pending, passes_by, closes_by, move, replied};
-ghost use Rattle.cr_nodes.specs.Moves as moves;
+ghost use Rattle.cr_nodes.specs.Moves.{at, at_start, row, body_of, Gives, AsksAt, opens_by, by_choice, by_pending, passes_by, closes_by, move, replied};
 ghost use Rattle.cr_nodes.specs.Advancing.{Advances};
 ghost use Rattle.cr_nodes.specs.Falling.{Falls};
 
@@ -142,6 +143,149 @@ impl Nodes {
             }
             None if is_done(event) => Ok(Before::Nothing),
             None => Err(NodesFault::Unfit),
+        }
+    }
+
+    // Takes a token, where it is the next event.
+    fn pass(
+        &mut self,
+        term: Term,
+        rest: &'static [Symbol],
+        event: Event,
+        tokens: &[Tok],
+        names: &NameTable,
+    ) -> Result<Before, NodesFault>
+        requires short { length tokens.now ≤ 2 ^ 25 }
+        ensures { Advances (passes_by self.old.place (row self.old.inner.node rest.now) self.old.above (meets term (token_at (terminals names.now tokens.now) self.old.place))) self.old event result self.new }
+    {
+        let i = self.place;
+        if !is_token(event, i) {
+            return Err(NodesFault::Unfit);
+        }
+        if !meets_at(names, tokens, i as usize, term) {
+            return Err(NodesFault::Unfit);
+        }
+        self.place = i + 1;
+        self.pending = Pending::From(0);
+        self.inner.rest = rest;
+        Ok(Before::Nothing)
+    }
+
+    // Takes an action, where it is the next event.
+    fn act(
+        &mut self,
+        action: Action,
+        rest: &'static [Symbol],
+        event: Event,
+    ) -> Result<Before, NodesFault>
+        ensures { Advances (Gives (Due action) (at self.old.place (Pending.From 0) (row self.old.inner.node rest.now) self.old.above)) self.old event result self.new }
+    {
+        if !is_act(event, action) {
+            return Err(NodesFault::Unfit);
+        }
+        self.pending = Pending::From(0);
+        self.inner.rest = rest;
+        Ok(Before::Nothing)
+    }
+
+    // Takes an ask, where it is the next event.
+    fn ask(&mut self, k: usize, i: usize, event: Event) -> Result<Before, NodesFault>
+        requires { k < 2 ^ 64 - 1 }
+        ensures { Advances (AsksAt i (at self.old.place (Pending.Waits k) self.old.inner self.old.above)) self.old event result self.new }
+    {
+        if !is_ask(event, i) {
+            return Err(NodesFault::Unfit);
+        }
+        self.pending = Pending::Waits(k);
+        Ok(Before::Nothing)
+    }
+
+    // Opens a node by its alternative number k.
+    fn open(
+        &mut self,
+        node: NonTerm,
+        k: usize,
+        rest: &'static [Symbol],
+        event: Event,
+    ) -> Result<Before, NodesFault>
+        ensures { Advances (opens_by node self.old.place (row self.old.inner.node rest.now) self.old.above (body_of node k)) self.old event result self.new }
+    {
+        let upper = OpenRow {
+            node: self.inner.node,
+            rest,
+        };
+        match body_at(node, k) {
+            None => Err(NodesFault::Unfit),
+            Some(body) => {
+                if self.above.push(upper).is_err() {
+                    return Err(NodesFault::OutOfMemory);
+                }
+                self.pending = Pending::From(0);
+                self.inner = OpenRow { node, rest: body };
+                Ok(Before::Opens(node))
+            }
+        }
+    }
+
+    // Opens a node by the first alternative from number k on whose guard doesn't fail.
+    fn open_from(
+        &mut self,
+        node: NonTerm,
+        k: usize,
+        rest: &'static [Symbol],
+        event: Event,
+        tokens: &[Tok],
+        names: &NameTable,
+    ) -> Result<Before, NodesFault>
+        requires { self.old.inner.rest ≡ Symbol.Non node ∷ rest.now }
+        ensures { Advances (by_choice node self.old.place (row self.old.inner.node rest.now) self.old.above (choice k (drop k (rule node)) (token_at (terminals names.now tokens.now) self.old.place) (token_at (terminals names.now tokens.now) (self.old.place + 1)))) self.old event result self.new }
+    {
+        let i = self.place as usize;
+        match choose(node, k, lexeme_at(names, tokens, i), lexeme_at(names, tokens, i + 1)) {
+            Choice::Nothing => Err(NodesFault::Unfit),
+            Choice::Takes(k) => self.open(node, k, rest, event),
+            Choice::Waits(k, ahead) => self.ask(k, ask_at(i, ahead), event),
+        }
+    }
+
+    // Opens a node, by what is known of its alternatives.
+    fn open_next(
+        &mut self,
+        node: NonTerm,
+        rest: &'static [Symbol],
+        event: Event,
+        tokens: &[Tok],
+        names: &NameTable,
+    ) -> Result<Before, NodesFault>
+        requires { self.old.inner.rest ≡ Symbol.Non node ∷ rest.now }
+        ensures { Advances (by_pending (terminals names.now tokens.now) node self.old.place (row self.old.inner.node rest.now) self.old.above self.old.pending) self.old event result self.new }
+    {
+        match self.pending {
+            Pending::From(k) => self.open_from(node, k, rest, event, tokens, names),
+            Pending::Waits(_) => Err(NodesFault::Unfit),
+            Pending::Takes(k) => self.open(node, k, rest, event),
+        }
+    }
+
+    /// What comes before an event of the unit's tree, which is done by this call. So it is called until it answers
+    /// `Nothing`: the event itself is taken by that call. An ask is taken before its node is opened, and wants a reply.
+    ///
+    /// `Unfit` comes where neither a node can be opened or closed nor this event is the next one, as between an ask and
+    /// its reply; `OutOfMemory` where there is no memory for a node to open. All is then as it was.
+    pub fn advance(
+        &mut self,
+        event: Event,
+        tokens: &[Tok],
+        names: &NameTable,
+    ) -> Result<Before, NodesFault>
+        requires short { length tokens.now ≤ 2 ^ 25 }
+        ensures advances { Advances (move (terminals names.now tokens.now) self.old) self.old event result self.new }
+    {
+        match self.inner.rest {
+            [] => self.close(event),
+            [Symbol::Term(term), rest @ ..] => self.pass(*term, rest, event, tokens, names),
+            [Symbol::Act(action), rest @ ..] => self.act(*action, rest, event),
+            [Symbol::Non(node), rest @ ..] => self.open_next(*node, rest, event, tokens, names),
         }
     }
 }
