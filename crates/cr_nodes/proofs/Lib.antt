@@ -1,3 +1,4 @@
+pub mod Falling
 pub mod Alternatives
 pub mod Whole
 pub mod Onward

@@ -280,6 +280,7 @@ impl Nodes {
     ) -> Result<Before, NodesFault>
         requires short { length tokens.now ≤ 2 ^ 25 }
         ensures advances { Advances (move (terminals names.now tokens.now) self.old) self.old event result self.new }
+        ensures falls { Falls self.old result self.new }
     {
         match self.inner.rest {
             [] => self.close(event),
