@@ -1,3 +1,4 @@
+pub mod Called
 pub mod Falling
 pub mod Alternatives
 pub mod Whole

@@ -1,11 +1,16 @@
 -- What runs of the moves are: the steps of trees.
-use Rattle.std.specs.Prelude.{◌≡◌, ℕ, Bool, List, [], ◌∷◌, ◌++◌}
+use Rattle.std.specs.Prelude.{◌≡◌, ℕ, Bool, Ok, List, [], ◌∷◌, ◌++◌}
 use Rattle.cr_grammar.specs.declared.symbols.NonTerm.{NonTerm}
 use Rattle.cr_grammar.specs.declared.symbols.Action.{Action}
 use Rattle.cr_ll.specs.Guards.{Terminal}
 use Rattle.cr_ll.specs.Derivation.{Item, Passed, Due, Asked, Trees, Derives, events}
 use Rattle.cr_ll.specs.Laws.{unit}
 use Rattle.cr_binding.specs.Steps.{Step, Opens, Passes, Acts, Closes, steps}
+use Rattle.cr_ll.specs.declared.state.Event.{Event}
+use Rattle.cr_ll.specs.declared.state.Event.TheVariants as event
+use Rattle.cr_nodes.specs.declared.nodes.Before.{Before}
+use Rattle.cr_nodes.specs.declared.nodes.Before.TheVariants as before
+use Rattle.cr_nodes.specs.Advancing.{Advances}
 use Rattle.cr_nodes.specs.Moves.{OpenNodes, at_start, Move, OpensTo, ClosesTo, Gives, AsksAt, Ends, Faults, move, replied}
 use Rattle.cr_nodes.specs.Gathering.{Gathered, at_first, asking, passing, acting, opening, closing}
 
@@ -17,6 +22,28 @@ pub data Run (ts : List Terminal) : OpenNodes → Gathered → List Item → Lis
   passes : {c d e : OpenNodes} {g h : Gathered} {i : ℕ} {es : List Item} {xs : List Step} → move ts c ≡ Gives (Passed i) d → Run ts d (passing i g) es xs e h → Run ts c g (Passed i ∷ es) (Passes i ∷ xs) e h
   acts : {c d e : OpenNodes} {g h : Gathered} {x : Action} {es : List Item} {xs : List Step} → move ts c ≡ Gives (Due x) d → Run ts d (acting x g) es xs e h → Run ts c g (Due x ∷ es) (Acts x ∷ xs) e h
   asks : {c d e : OpenNodes} {g h : Gathered} {i : ℕ} {es : List Item} {xs : List Step} (answer : Bool) → move ts c ≡ AsksAt i d → Run ts (replied answer d) (asking i answer g) es xs e h → Run ts c g (Asked i answer ∷ es) xs e h
+
+-- what a call that answered makes: an opening or closing, or the event itself; an ask comes with its reply
+abbrev pub Makes : List Terminal → OpenNodes → Gathered → OpenNodes → Before → Event → Type 0
+Makes ts old g new (before.Opens m) x = Run ts old g [] (Opens m g.asks ∷ []) new (opening m g)
+Makes ts old g new before.Closes x = Run ts old g [] (Closes g.inner.children ∷ []) new (closing g)
+Makes ts old g new before.Nothing (event.Token i) = Run ts old g (Passed i ∷ []) (Passes i ∷ []) new (passing i g)
+Makes ts old g new before.Nothing (event.Act x) = Run ts old g (Due x ∷ []) (Acts x ∷ []) new (acting x g)
+Makes ts old g new before.Nothing (event.Ask i) =
+    (answer : Bool) → Run ts old g (Asked i answer ∷ []) [] (replied answer new) (asking i answer g)
+Makes ts old g new before.Nothing event.Done = (move ts old ≡ Ends) × (new ≡ old)
+
+-- Each call is a run,
+abbrev pub CallsAreRuns : Type 0
+CallsAreRuns =
+    (ts : List Terminal) (old new : OpenNodes) (g : Gathered) (x : Event) (answer : Before)
+    → Advances (move ts old) old x (Ok answer) new → Makes ts old g new answer x
+
+-- and one run behind another is a run.
+abbrev pub RunsJoin : Type 0
+RunsJoin =
+    (ts : List Terminal) (c d e : OpenNodes) (g h k : Gathered) (es fs : List Item) (xs ys : List Step)
+    → Run ts c g es xs d h → Run ts d h fs ys e k → Run ts c g (es ++ fs) (xs ++ ys) e k
 
 -- a move waits for the first of these events, or for none yet
 abbrev pub Awaits : List Item → Move → Type 0

@@ -1,10 +1,16 @@
 //! What runs of the moves are: laws of the definitions. Each function does nothing; its contract is
 //! the law.
-ghost use Rattle.cr_nodes.specs.Laws.{StepsAreATrees, AllStepsAreMade};
+ghost use Rattle.cr_nodes.specs.Laws.{CallsAreRuns, RunsJoin, StepsAreATrees, AllStepsAreMade};
 
 /// Given the first events of a tree, the nodes make its first steps, and wait for its next event; and
 /// at the end they have made all.
 pub fn steps_are_a_trees()
     ensures fronts { StepsAreATrees }
     ensures whole { AllStepsAreMade }
+{}
+
+/// What calls do one after another is a run of the moves.
+pub fn calls_are_a_run()
+    ensures calls { CallsAreRuns }
+    ensures join { RunsJoin }
 {}

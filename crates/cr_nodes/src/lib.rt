@@ -7,4 +7,5 @@ mod nodes;
 mod pending;
 mod rows;
 
-pub use laws::steps_are_a_trees;
+pub use laws::{calls_are_a_run, steps_are_a_trees};
+pub use nodes::{Before, Nodes, NodesFault};

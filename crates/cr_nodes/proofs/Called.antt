@@ -1,0 +1,48 @@
+-- From calls to runs.
+use Rattle.std.proofs.Common.{◌≡◌, ◌≢◌, ℕ, Bool, Option, Some, None, Ok, List, [], ◌∷◌, ◌++◌, refl, sym, ◌∙◌, ap, subst}
+use Rattle.cr_ll.specs.declared.state.Event.{Event}
+use Rattle.cr_ll.specs.declared.state.Event.TheVariants as event
+use Rattle.cr_ll.specs.Guards.{Terminal}
+use Rattle.cr_ll.specs.Derivation.{Item, Passed, Due, Asked}
+use Rattle.cr_binding.specs.Steps.{Step}
+use Rattle.cr_nodes.specs.declared.nodes.Before.{Before}
+use Rattle.cr_nodes.specs.declared.nodes.Before.TheVariants as before
+use Rattle.cr_nodes.specs.Moves.{OpenNodes, Move, OpensTo, ClosesTo, Gives, AsksAt, Ends, Faults, move, replied}
+use Rattle.cr_nodes.specs.Gathering.{Gathered, asking}
+use Rattle.cr_nodes.specs.Advancing.{Advances, awaited, taken}
+use Rattle.cr_nodes.specs.Laws.{Run, stop, opens, closes, passes, acts, asks, Makes, CallsAreRuns, RunsJoin}
+
+-- the move that waited for an event
+taken_by : (ts : List Terminal) (old new : OpenNodes) (g : Gathered) (x : Event) (now : Move) → move ts old ≡ now → awaited now ≡ Some x → new ≡ taken old now → Makes ts old g new before.Nothing x
+taken_by ts old new g x (OpensTo m d) is a t = cc
+taken_by ts old new g x (ClosesTo d) is a t = cc
+taken_by ts old new g x (Gives (Passed i) d) is a t =
+    let e : event.Token i ≡ x = cc in
+    subst (λ z. Makes ts old g new before.Nothing z) e (passes (is ∙ ap (λ z. Gives (Passed i) z) (sym t)) stop)
+taken_by ts old new g x (Gives (Due y) d) is a t =
+    let e : event.Act y ≡ x = cc in
+    subst (λ z. Makes ts old g new before.Nothing z) e (acts (is ∙ ap (λ z. Gives (Due y) z) (sym t)) stop)
+taken_by ts old new g x (Gives (Asked i b) d) is a t = cc
+taken_by ts old new g x (AsksAt i d) is a t =
+    let e : event.Ask i ≡ x = cc in
+    subst (λ z. Makes ts old g new before.Nothing z) e (λ answer. asks answer (is ∙ ap (λ z. AsksAt i z) (sym t)) stop)
+taken_by ts old new g x Ends is a t =
+    let e : event.Done ≡ x = cc in
+    subst (λ z. Makes ts old g new before.Nothing z) e (is, t)
+taken_by ts old new g x Faults is a t = cc
+
+pub calls_are_runs : CallsAreRuns
+calls_are_runs ts old new g x (before.Opens m) a = opens a stop
+calls_are_runs ts old new g x before.Closes a = closes a stop
+calls_are_runs ts old new g x before.Nothing a = taken_by ts old new g x (move ts old) refl a.0 a.1
+
+join : {ts : List Terminal} {c d e : OpenNodes} {g h k : Gathered} {es fs : List Item} {xs ys : List Step} → Run ts c g es xs d h → Run ts d h fs ys e k → Run ts c g (es ++ fs) (xs ++ ys) e k
+join stop more = more
+join (opens now run) more = opens now (join run more)
+join (closes now run) more = closes now (join run more)
+join (passes now run) more = passes now (join run more)
+join (acts now run) more = acts now (join run more)
+join (asks answer now run) more = asks answer now (join run more)
+
+pub runs_join : RunsJoin
+runs_join ts c d e g h k es fs xs ys run more = join run more
