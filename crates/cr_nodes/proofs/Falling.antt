@@ -38,7 +38,7 @@ opens_smaller : (m : NonTerm) (i : ℕ) (upper : Row) (above : List Row) (k : �
 opens_smaller m i upper above k None e = tt
 opens_smaller m i upper above k (Some body) e =
     let less : weight (body ++ (upper.rest ++ left_above above)) < weight (Non m ∷ (upper.rest ++ left_above above)) =
-          fine_lighter m body (upper.rest ++ left_above above) (body_fine m (rule m) k body (table_fine m) e) in
+    fine_lighter m body (upper.rest ++ left_above above) (body_fine m (rule m) k body (table_fine m) e) in
     omega arith
 
 choice_smaller : (m : NonTerm) (i : ℕ) (upper : Row) (above : List Row) (ch : Choice) → Smaller (2 * weight (Non m ∷ (upper.rest ++ left_above above)) + length above) (by_choice m i upper above ch)

@@ -131,7 +131,7 @@ with_tree tree = gathered [] n.Unit [] tree []
 pub tree_run : (ts : List Terminal) (tree : Trees) (j : ℕ) → Derives ts tree 0 unit j → Run ts at_start at_first (events tree) (steps tree) (at_end j) (with_tree tree)
 tree_run ts tree j d =
     let run : Run ts at_start at_first (events tree ++ []) (steps tree ++ []) (at_end j) (with_tree tree) =
-          whole ts tree 0 unit j n.Unit n.Unit [] [] [] [] none [] [] (at_end j) (with_tree tree) d stop in
+    whole ts tree 0 unit j n.Unit n.Unit [] [] [] [] none [] [] (at_end j) (with_tree tree) d stop in
     let P : List Item → Type 0 = λ z. Run ts at_start at_first z (steps tree ++ []) (at_end j) (with_tree tree) in
     let Q : List Step → Type 0 = λ z. Run ts at_start at_first (events tree) z (at_end j) (with_tree tree) in
     subst Q (append-nil (steps tree)) (subst P (append-nil (events tree)) run)

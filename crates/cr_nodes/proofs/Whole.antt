@@ -114,7 +114,7 @@ module _ (ts : List Terminal) where
       let P : Trees → Type 0 = λ z. Run ts (at j (pending.From 0) (row m rest) above) (with_trees n by out z) es xs e h in
       let run' : P (followed_by (followed_by made (token k none)) next) = subst P (sym (followed_on made (token k none) next)) run in
       let later : Run ts (at (i + 1) (pending.From 0) (row m (ss ++ rest)) above) (with_trees n by out (followed_by made (token k none))) (events next ++ es) (steps next ++ xs) e h =
-            whole next (i + 1) ss j m n rest above by out (followed_by made (token k none)) es xs e h d.2 run' in
+      whole next (i + 1) ss j m n rest above by out (followed_by made (token k none)) es xs e h d.2 run' in
       passes (ap (λ z. passes_by i (row m (ss ++ rest)) above z) d.1 ∙ ap (λ z. Gives (Passed z) (at (i + 1) (pending.From 0) (row m (ss ++ rest)) above)) (sym d.0)) later
   whole (token k next) i (Non t ∷ ss) j m n rest above by out made es xs e h d run = absurd d
   whole (token k next) i (Act t ∷ ss) j m n rest above by out made es xs e h d run = absurd d
@@ -123,7 +123,7 @@ module _ (ts : List Terminal) where
       let P : Trees → Type 0 = λ z. Run ts (at j (pending.From 0) (row m rest) above) (with_trees n by out z) es xs e h in
       let run' : P (followed_by (followed_by made (action x none)) next) = subst P (sym (followed_on made (action x none) next)) run in
       let later : Run ts (at i (pending.From 0) (row m (ss ++ rest)) above) (with_trees n by out (followed_by made (action x none))) (events next ++ es) (steps next ++ xs) e h =
-            whole next i ss j m n rest above by out (followed_by made (action x none)) es xs e h d.1 run' in
+      whole next i ss j m n rest above by out (followed_by made (action x none)) es xs e h d.1 run' in
       acts (ap (λ z. Gives (Due z) (at i (pending.From 0) (row m (ss ++ rest)) above)) (sym d.0)) later
   whole (action x next) i (Non b ∷ ss) j m n rest above by out made es xs e h d run = absurd d
   whole (action x next) i (Term b ∷ ss) j m n rest above by out made es xs e h d run = absurd d
@@ -135,7 +135,7 @@ module _ (ts : List Terminal) where
       let P : Trees → Type 0 = λ z. Run ts (at j (pending.From 0) (row m rest) above) (with_trees n by out z) es xs e h in
       let run' : P (followed_by (followed_by made one) next) = subst P (sym (followed_on made one next)) run in
       let later : Run ts (at d.2 (pending.From 0) upper above) (with_trees n by out (followed_by made one)) (events next ++ es) (steps next ++ xs) e h =
-            whole next d.2 ss j m n rest above by out (followed_by made one) es xs e h d.5 run' in
+      whole next d.2 ss j m n rest above by out (followed_by made one) es xs e h d.5 run' in
       let Q : NonTerm → Type 0 = λ z. Run ts (at i (pending.From 0) (row z d.1) (upper ∷ above)) (with_trees z asked (in' ∷ out) none) (events children ++ (events next ++ es)) (steps children ++ (Closes children ∷ (steps next ++ xs))) e h in
       let R : List Symbol → Type 0 = λ z. Run ts (at i (pending.From 0) (row k z) (upper ∷ above)) (with_trees k asked (in' ∷ out) none) (events children ++ (events next ++ es)) (steps children ++ (Closes children ∷ (steps next ++ xs))) e h in
       let kids : R (d.1 ++ []) = whole children i d.1 d.2 k k [] (upper ∷ above) asked (in' ∷ out) none (events next ++ es) (Closes children ∷ (steps next ++ xs)) e h d.4 (closes refl later) in

@@ -9,3 +9,6 @@ mod rows;
 
 pub use laws::{calls_are_a_run, steps_are_a_trees};
 pub use nodes::{Before, Nodes, NodesFault};
+
+#[cfg(test)]
+mod tests;

@@ -241,7 +241,12 @@ impl Nodes {
         ensures { Advances (by_choice node self.old.place (row self.old.inner.node rest.now) self.old.above (choice k (drop k (rule node)) (token_at (terminals names.now tokens.now) self.old.place) (token_at (terminals names.now tokens.now) (self.old.place + 1)))) self.old event result self.new }
     {
         let i = self.place as usize;
-        match choose(node, k, lexeme_at(names, tokens, i), lexeme_at(names, tokens, i + 1)) {
+        match choose(
+            node,
+            k,
+            lexeme_at(names, tokens, i),
+            lexeme_at(names, tokens, i + 1),
+        ) {
             Choice::Nothing => Err(NodesFault::Unfit),
             Choice::Takes(k) => self.open(node, k, rest, event),
             Choice::Waits(k, ahead) => self.ask(k, ask_at(i, ahead), event),
