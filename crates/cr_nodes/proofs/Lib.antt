@@ -1,3 +1,4 @@
+pub mod Standing
 pub mod Called
 pub mod Falling
 pub mod Alternatives

@@ -5,6 +5,7 @@ use Rattle.cr_grammar.specs.declared.symbols.Action.{Action}
 use Rattle.cr_ll.specs.Guards.{Terminal}
 use Rattle.cr_ll.specs.Derivation.{Item, Passed, Due, Asked, Trees, Derives, events}
 use Rattle.cr_ll.specs.Laws.{unit}
+use Rattle.cr_binding.specs.WellFormed.{Begins}
 use Rattle.cr_binding.specs.Steps.{Step, Opens, Passes, Acts, Closes, steps}
 use Rattle.cr_ll.specs.declared.state.Event.{Event}
 use Rattle.cr_ll.specs.declared.state.Event.TheVariants as event
@@ -67,3 +68,23 @@ AllStepsAreMade =
     (ts : List Terminal) (tree : Trees) (j : ℕ) (es more : List Item) (xs : List Step) (c : OpenNodes) (g : Gathered)
     → Derives ts tree 0 unit j → events tree ≡ es ++ more → Run ts at_start at_first es xs c g → move ts c ≡ Ends
     → (more ≡ []) × (xs ≡ steps tree) × (g.inner.children ≡ tree)
+
+-- What is run derives: at the end the tokens have the tree that was gathered, which has these events and steps.
+abbrev pub RunsDerive : Type 0
+RunsDerive =
+    (ts : List Terminal) (es : List Item) (xs : List Step) (c : OpenNodes) (g : Gathered)
+    → Run ts at_start at_first es xs c g → move ts c ≡ Ends
+    → Derives ts g.inner.children 0 unit c.place × (es ≡ events g.inner.children) × (xs ≡ steps g.inner.children)
+
+abbrev pub AllClose : List Step → Type 0
+AllClose [] = Unit {0}
+AllClose (Closes children ∷ xs) = AllClose xs
+AllClose (_ ∷ xs) = ⊥
+
+-- And wherever a run stops, trees that are cut off there begin to derive from the tokens: their steps are those of the run,
+-- and then all open nodes are closed.
+abbrev pub RunsBegin : Type 0
+RunsBegin =
+    (ts : List Terminal) (es : List Item) (xs : List Step) (c : OpenNodes) (g : Gathered)
+    → Run ts at_start at_first es xs c g
+    → (trees : Trees) × (more : List Step) × Begins ts trees 0 unit × (steps trees ≡ xs ++ more) × AllClose more

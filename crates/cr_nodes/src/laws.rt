@@ -1,6 +1,8 @@
 //! What runs of the moves are: laws of the definitions. Each function does nothing; its contract is
 //! the law.
-ghost use Rattle.cr_nodes.specs.Laws.{CallsAreRuns, RunsJoin, StepsAreATrees, AllStepsAreMade};
+ghost use Rattle.cr_nodes.specs.Laws.{CallsAreRuns, RunsJoin, StepsAreATrees, AllStepsAreMade, RunsDerive, RunsBegin};
+
+use cr_binding::steps_bind;
 
 /// Given the first events of a tree, the nodes make its first steps, and wait for its next event; and
 /// at the end they have made all.
@@ -14,3 +16,12 @@ pub fn calls_are_a_run()
     ensures calls { CallsAreRuns }
     ensures join { RunsJoin }
 {}
+
+/// At the end of a run the tokens have the tree whose steps were made, and before that a tree that is
+/// cut off there.
+pub fn runs_are_of_trees()
+    ensures derive { RunsDerive }
+    ensures begin { RunsBegin }
+{
+    steps_bind();
+}
