@@ -1,5 +1,5 @@
 -- From calls to runs.
-use Rattle.std.proofs.Common.{◌≡◌, ◌≢◌, ℕ, Bool, Option, Some, None, Ok, List, [], ◌∷◌, ◌++◌, refl, sym, ◌∙◌, ap, subst}
+use Rattle.std.proofs.Common.{◌≡◌, ◌≢◌, ℕ, Bool, Option, Some, None, Ok, Err, List, [], ◌∷◌, ◌++◌, refl, sym, ◌∙◌, ap, subst}
 use Rattle.cr_ll.specs.declared.state.Event.{Event}
 use Rattle.cr_ll.specs.declared.state.Event.TheVariants as event
 use Rattle.cr_ll.specs.Guards.{Terminal}
@@ -7,22 +7,22 @@ use Rattle.cr_ll.specs.Derivation.{Item, Passed, Due, Asked}
 use Rattle.cr_binding.specs.Steps.{Step}
 use Rattle.cr_nodes.specs.declared.nodes.Before.{Before}
 use Rattle.cr_nodes.specs.declared.nodes.Before.TheVariants as before
-use Rattle.cr_nodes.specs.Moves.{OpenNodes, Move, OpensTo, ClosesTo, Gives, AsksAt, Ends, Faults, move, replied}
+use Rattle.cr_nodes.specs.declared.nodes.NodesFault.TheVariants.{Unfit}
+use Rattle.cr_nodes.specs.Moves.{OpenNodes, Move, OpensTo, ClosesTo, PassesTo, ActsTo, AsksAt, Ends, Faults, move, replied}
 use Rattle.cr_nodes.specs.Gathering.{Gathered, asking}
 use Rattle.cr_nodes.specs.Advancing.{Advances, awaited, taken}
-use Rattle.cr_nodes.specs.Laws.{Run, stop, opens, closes, passes, acts, asks, Makes, CallsAreRuns, RunsJoin}
+use Rattle.cr_nodes.specs.Laws.{Run, stop, opens, closes, passes, acts, asks, Awaits, Makes, CallsAreRuns, RunsJoin, event_of, AwaitedIsFit}
 
 -- the move that waited for an event
 taken_by : (ts : List Terminal) (old new : OpenNodes) (g : Gathered) (x : Event) (now : Move) → move ts old ≡ now → awaited now ≡ Some x → new ≡ taken old now → Makes ts old g new before.Nothing x
 taken_by ts old new g x (OpensTo m d) is a t = cc
 taken_by ts old new g x (ClosesTo d) is a t = cc
-taken_by ts old new g x (Gives (Passed i) d) is a t =
+taken_by ts old new g x (PassesTo i d) is a t =
     let e : event.Token i ≡ x = cc in
-    subst (λ z. Makes ts old g new before.Nothing z) e (passes (is ∙ ap (λ z. Gives (Passed i) z) (sym t)) stop)
-taken_by ts old new g x (Gives (Due y) d) is a t =
+    subst (λ z. Makes ts old g new before.Nothing z) e (passes (is ∙ ap (λ z. PassesTo i z) (sym t)) stop)
+taken_by ts old new g x (ActsTo y d) is a t =
     let e : event.Act y ≡ x = cc in
-    subst (λ z. Makes ts old g new before.Nothing z) e (acts (is ∙ ap (λ z. Gives (Due y) z) (sym t)) stop)
-taken_by ts old new g x (Gives (Asked i b) d) is a t = cc
+    subst (λ z. Makes ts old g new before.Nothing z) e (acts (is ∙ ap (λ z. ActsTo y z) (sym t)) stop)
 taken_by ts old new g x (AsksAt i d) is a t =
     let e : event.Ask i ≡ x = cc in
     subst (λ z. Makes ts old g new before.Nothing z) e (λ answer. asks answer (is ∙ ap (λ z. AsksAt i z) (sym t)) stop)
@@ -46,3 +46,15 @@ join (asks answer now run) more = asks answer now (join run more)
 
 pub runs_join : RunsJoin
 runs_join ts c d e g h k es fs xs ys run more = join run more
+
+not_unfit : (es : List Item) (old new : OpenNodes) (now : Move) → Awaits es now → Advances now old (event_of es) (Err Unfit) new → ⊥
+not_unfit es old new (OpensTo m d) w a = a.0
+not_unfit es old new (ClosesTo d) w a = a.0
+not_unfit es old new (PassesTo i d) w a = a.1 (ap (λ z. Some (event_of z)) (sym w.1))
+not_unfit es old new (ActsTo x d) w a = a.1 (ap (λ z. Some (event_of z)) (sym w.1))
+not_unfit es old new (AsksAt i d) w a = a.1 (ap (λ z. Some (event_of z)) (sym w.2))
+not_unfit es old new Ends w a = a.1 (ap (λ z. Some (event_of z)) (sym w))
+not_unfit es old new Faults w a = w
+
+pub awaited_is_fit : AwaitedIsFit
+awaited_is_fit ts es old new w a = not_unfit es old new (move ts old) w a

@@ -17,7 +17,7 @@ use Rattle.cr_nodes.specs.declared.pending.Pending.TheVariants as pending
 use Rattle.cr_nodes.specs.declared.nodes.Before.{Before}
 use Rattle.cr_nodes.specs.declared.nodes.Before.TheVariants as before
 use Rattle.cr_nodes.specs.declared.nodes.NodesFault.{NodesFault}
-use Rattle.cr_nodes.specs.Moves.{Row, row, OpenNodes, at, Move, OpensTo, ClosesTo, Gives, AsksAt, Ends, Faults, body_of, opens_by, by_choice, by_pending, passes_by, closes_by, move_on, move}
+use Rattle.cr_nodes.specs.Moves.{Row, row, OpenNodes, at, Move, OpensTo, ClosesTo, PassesTo, ActsTo, AsksAt, Ends, Faults, body_of, opens_by, by_choice, by_pending, passes_by, closes_by, move_on, move}
 use Rattle.cr_nodes.specs.Advancing.{Advances}
 use Rattle.cr_nodes.specs.Falling.{left_above, at_most, Falls}
 

@@ -9,7 +9,7 @@ use Rattle.cr_ll.specs.Derivation.{Item, Passed, Due, Asked, Trees, none, Derive
 use Rattle.cr_ll.specs.Laws.{unit}
 use Rattle.cr_binding.specs.Steps.{Step, Opens, Passes, Acts, Closes, steps}
 use Rattle.cr_nodes.specs.declared.pending.Pending.TheVariants as pending
-use Rattle.cr_nodes.specs.Moves.{row, OpenNodes, at, at_start, OpensTo, ClosesTo, Gives, AsksAt, Ends, move, replied}
+use Rattle.cr_nodes.specs.Moves.{row, OpenNodes, at, at_start, OpensTo, ClosesTo, PassesTo, ActsTo, AsksAt, Ends, move, replied}
 use Rattle.cr_nodes.specs.Gathering.{Gathered, gathered, at_first, asking, passing, acting, opening, closing}
 use Rattle.cr_nodes.specs.Laws.{Run, stop, opens, closes, passes, acts, asks, Awaits, StepsAreATrees, AllStepsAreMade}
 use Rattle.cr_nodes.proofs.Whole.{whole}
@@ -39,7 +39,7 @@ next_closes d is end (passes now run) = cc
 next_closes d is end (acts now run) = cc
 next_closes d is end (asks answer now run) = cc
 
-pub next_passes : {ts : List Terminal} {c e : OpenNodes} {g k : Gathered} {es : List Item} {xs : List Step} → (i : ℕ) (d : OpenNodes) → move ts c ≡ Gives (Passed i) d → move ts e ≡ Ends → Run ts c g es xs e k → (more : List Item) × (later : List Step) × (es ≡ Passed i ∷ more) × (xs ≡ Passes i ∷ later) × Run ts d (passing i g) more later e k
+pub next_passes : {ts : List Terminal} {c e : OpenNodes} {g k : Gathered} {es : List Item} {xs : List Step} → (i : ℕ) (d : OpenNodes) → move ts c ≡ PassesTo i d → move ts e ≡ Ends → Run ts c g es xs e k → (more : List Item) × (later : List Step) × (es ≡ Passed i ∷ more) × (xs ≡ Passes i ∷ later) × Run ts d (passing i g) more later e k
 next_passes i d is end stop = cc
 next_passes i d is end (opens now run) = cc
 next_passes i d is end (closes now run) = cc
@@ -52,7 +52,7 @@ next_passes {ts} {e} {g} {k} i d is end (passes {d = b} {i = j} {es = more} {xs 
 next_passes i d is end (acts now run) = cc
 next_passes i d is end (asks answer now run) = cc
 
-pub next_acts : {ts : List Terminal} {c e : OpenNodes} {g k : Gathered} {es : List Item} {xs : List Step} → (x : Action) (d : OpenNodes) → move ts c ≡ Gives (Due x) d → move ts e ≡ Ends → Run ts c g es xs e k → (more : List Item) × (later : List Step) × (es ≡ Due x ∷ more) × (xs ≡ Acts x ∷ later) × Run ts d (acting x g) more later e k
+pub next_acts : {ts : List Terminal} {c e : OpenNodes} {g k : Gathered} {es : List Item} {xs : List Step} → (x : Action) (d : OpenNodes) → move ts c ≡ ActsTo x d → move ts e ≡ Ends → Run ts c g es xs e k → (more : List Item) × (later : List Step) × (es ≡ Due x ∷ more) × (xs ≡ Acts x ∷ later) × Run ts d (acting x g) more later e k
 next_acts x d is end stop = cc
 next_acts x d is end (opens now run) = cc
 next_acts x d is end (closes now run) = cc

@@ -1,5 +1,5 @@
 -- Where a run has come to, there stand the nodes of trees that are cut off there.
-use Rattle.std.proofs.Common.{◌≡◌, ℕ, zero, suc, ◌+◌, Bool, true, false, Option, Some, None, List, [], ◌∷◌, ◌++◌, drop, refl, sym, ◌∙◌, ap, subst, append_assoc, inl, inr}
+use Rattle.std.proofs.Common.{◌≡◌, ℕ, zero, suc, ◌+◌, ◌<◌, length, arith, Bool, true, false, Option, Some, None, List, [], ◌∷◌, ◌++◌, drop, refl, sym, ◌∙◌, ap, subst, append_assoc, inl, inr}
 use Rattle.std.specs.Prelude.{slice_get, option_map, flat_map}
 use Rattle.std.proofs.lemmas.List.{append-nil}
 use Rattle.cr_grammar.specs.declared.symbols.NonTerm.{NonTerm}
@@ -12,16 +12,17 @@ use Rattle.cr_ll.specs.declared.guards.Verdict.{Verdict}
 use Rattle.cr_ll.specs.declared.guards.Verdict.TheVariants.{Holds, Fails, Asks}
 use Rattle.cr_ll.specs.declared.guards.Choice.{Choice}
 use Rattle.cr_ll.specs.declared.guards.Choice.TheVariants.{Nothing, Takes, Waits}
-use Rattle.cr_ll.specs.Guards.{Terminal, ask_at, token_at, meets, choice}
+use Rattle.cr_ll.specs.Guards.{Terminal, ask_at, token_at, meets, choice, IsWithin}
 use Rattle.cr_ll.specs.Machine.{body_at}
 use Rattle.cr_ll.specs.Derivation.{Item, Passed, Due, Asked, Trees, none, token, action, node, Chosen, Derives, events}
 use Rattle.cr_ll.specs.Laws.{unit}
+use Rattle.cr_ll.proofs.Asking.{choice_within, drop_within}
 use Rattle.cr_ll.proofs.Sound.{tells, Tells}
 use Rattle.cr_binding.specs.WellFormed.{Begins}
 use Rattle.cr_binding.specs.Steps.{Step, Opens, Passes, Acts, Closes, steps, given, StepsAreEvents}
 use Rattle.cr_nodes.specs.declared.pending.Pending.{Pending}
 use Rattle.cr_nodes.specs.declared.pending.Pending.TheVariants as pending
-use Rattle.cr_nodes.specs.Moves.{Row, row, OpenNodes, at, at_start, Move, OpensTo, ClosesTo, Gives, AsksAt, Ends, Faults, body_of, opens_by, by_choice, by_pending, passes_by, closes_by, move_on, move, answered, replied}
+use Rattle.cr_nodes.specs.Moves.{Row, row, OpenNodes, at, at_start, Move, OpensTo, ClosesTo, PassesTo, ActsTo, AsksAt, Ends, Faults, body_of, opens_by, by_choice, by_pending, passes_by, closes_by, move_on, move, answered, replied}
 use Rattle.cr_nodes.specs.Gathering.{Branch, Gathered, gathered, followed_by, at_first, with_child, asking, passing, acting, opening, closing}
 use Rattle.cr_nodes.specs.Laws.{Run, stop, opens, closes, passes, acts, asks, RunsDerive, RunsBegin, AllClose}
 
@@ -39,6 +40,12 @@ steps_followed (node m by c f) g =
 given_last : (xs : List Step) (x : Step) → flat_map given (xs ++ x ∷ []) ≡ flat_map given xs ++ given x
 given_last [] x = append-nil (given x)
 given_last (y ∷ xs) x = ap (λ z. given y ++ z) (given_last xs x) ∙ sym (append_assoc (given y) (flat_map given xs) (given x))
+
+-- the symbols of an alternative that there is
+pub body_there : (rows : List Alternative) (k : ℕ) → k < length rows → option_map (λ (r : Alternative). r.1) (slice_get rows k) ≡ Some (body_at rows k)
+body_there [] k h = absurd (omega arith)
+body_there (r ∷ rows) zero h = refl
+body_there (r ∷ rows) (suc k) h = let g : k < length rows = omega arith in body_there rows k g
 
 body_same : (rows : List Alternative) (k : ℕ) (body : List Symbol) → option_map (λ (r : Alternative). r.1) (slice_get rows k) ≡ Some body → body_at rows k ≡ body
 body_same [] k body e = cc
@@ -130,8 +137,8 @@ module _ (ts : List Terminal) where
   Known i m by (pending.From r) =
       (more : List Item) (body : List Symbol) → Chosen (drop r (rule m)) (first i) (second i) i more body
       → Chosen (rule m) (first i) (second i) i (by ++ more) body
-  Known i m by (pending.Waits k) = Unit {0}
-  Known i m by (pending.Takes k) = Chosen (rule m) (first i) (second i) i by (body_at (rule m) k)
+  Known i m by (pending.Waits k) = ⊥
+  Known i m by (pending.Takes k) = Chosen (rule m) (first i) (second i) i by (body_at (rule m) k) × (body_of m k ≡ Some (body_at (rule m) k))
 
   abbrev pub KnownOf : ℕ → List Item → Pending → List Symbol → Type 0
   KnownOf i by p (Non m ∷ ss) = Known i m by p
@@ -162,9 +169,8 @@ module _ (ts : List Terminal) where
   abbrev pub Leads : Gathered → List Item → List Step → Move → Type 0
   Leads g es xs (OpensTo m d) = Stands d (opening m g) es (xs ++ Opens m g.asks ∷ [])
   Leads g es xs (ClosesTo d) = Stands d (closing g) es (xs ++ Closes g.inner.children ∷ [])
-  Leads g es xs (Gives (Passed i) d) = Stands d (passing i g) (es ++ Passed i ∷ []) (xs ++ Passes i ∷ [])
-  Leads g es xs (Gives (Due x) d) = Stands d (acting x g) (es ++ Due x ∷ []) (xs ++ Acts x ∷ [])
-  Leads g es xs (Gives (Asked i b) d) = Unit {0}
+  Leads g es xs (PassesTo i d) = Stands d (passing i g) (es ++ Passed i ∷ []) (xs ++ Passes i ∷ [])
+  Leads g es xs (ActsTo x d) = Stands d (acting x g) (es ++ Due x ∷ []) (xs ++ Acts x ∷ [])
   Leads g es xs (AsksAt i d) = (answer : Bool) → Stands (replied answer d) (asking i answer g) (es ++ Asked i answer ∷ []) xs
   Leads g es xs Ends = Unit {0}
   Leads g es xs Faults = Unit {0}
@@ -179,14 +185,14 @@ module _ (ts : List Terminal) where
         given_are = given_more xs (Opens m g.asks) es g.asks st.given_are refl;
       }
 
-  leads_asks : (i r k ahead : ℕ) (n m : NonTerm) (ss : List Symbol) (above : List Row) (g : Gathered) (es : List Item) (xs : List Step) → Tells (drop r (rule m)) r (first i) (second i) i m (Waits k ahead) → Stands (at i (pending.From r) (row n (Non m ∷ ss)) above) g es xs → (answer : Bool) → Stands (at i (answered answer (pending.Waits k)) (row n (Non m ∷ ss)) above) (asking (ask_at i ahead) answer g) (es ++ Asked (ask_at i ahead) answer ∷ []) xs
-  leads_asks i r k ahead n m ss above g es xs t st true =
+  leads_asks : (i r k ahead : ℕ) (n m : NonTerm) (ss : List Symbol) (above : List Row) (g : Gathered) (es : List Item) (xs : List Step) → Tells (drop r (rule m)) r (first i) (second i) i m (Waits k ahead) → k < length (rule m) → Stands (at i (pending.From r) (row n (Non m ∷ ss)) above) g es xs → (answer : Bool) → Stands (at i (answered answer (pending.Waits k)) (row n (Non m ∷ ss)) above) (asking (ask_at i ahead) answer g) (es ++ Asked (ask_at i ahead) answer ∷ []) xs
+  leads_asks i r k ahead n m ss above g es xs t w st true =
       record {
         stack = st.stack;
-        known = st.known (Asked (ask_at i ahead) true ∷ []) (body_at (rule m) k) t.0;
+        known = (st.known (Asked (ask_at i ahead) true ∷ []) (body_at (rule m) k) t.0, body_there (rule m) k w);
         given_are = ap (λ z. z ++ Asked (ask_at i ahead) true ∷ []) st.given_are ∙ append_assoc (flat_map given xs) g.asks (Asked (ask_at i ahead) true ∷ []);
       }
-  leads_asks i r k ahead n m ss above g es xs t st false =
+  leads_asks i r k ahead n m ss above g es xs t w st false =
       record {
         stack = st.stack;
         known = λ more body c.
@@ -195,18 +201,21 @@ module _ (ts : List Terminal) where
         given_are = ap (λ z. z ++ Asked (ask_at i ahead) false ∷ []) st.given_are ∙ append_assoc (flat_map given xs) g.asks (Asked (ask_at i ahead) false ∷ []);
       }
 
-  leads_choice : (i r : ℕ) (n m : NonTerm) (ss : List Symbol) (above : List Row) (g : Gathered) (es : List Item) (xs : List Step) (ch : Choice) → Tells (drop r (rule m)) r (first i) (second i) i m ch → Stands (at i (pending.From r) (row n (Non m ∷ ss)) above) g es xs → Leads g es xs (by_choice m i (row n ss) above ch)
-  leads_choice i r n m ss above g es xs Nothing t st = tt
-  leads_choice i r n m ss above g es xs (Takes k) t st =
+  pub within_rule : (i : ℕ) (m : NonTerm) (r : ℕ) → IsWithin (choice r (drop r (rule m)) (first i) (second i)) (length (rule m))
+  within_rule i m r = choice_within (drop r (rule m)) r (first i) (second i) (length (rule m)) (drop_within (rule m) r)
+
+  leads_choice : (i r : ℕ) (n m : NonTerm) (ss : List Symbol) (above : List Row) (g : Gathered) (es : List Item) (xs : List Step) (ch : Choice) → Tells (drop r (rule m)) r (first i) (second i) i m ch → IsWithin ch (length (rule m)) → Stands (at i (pending.From r) (row n (Non m ∷ ss)) above) g es xs → Leads g es xs (by_choice m i (row n ss) above ch)
+  leads_choice i r n m ss above g es xs Nothing t w st = tt
+  leads_choice i r n m ss above g es xs (Takes k) t w st =
       let P : List Item → Type 0 = λ z. Chosen (rule m) (first i) (second i) i z (body_at (rule m) k) in
       leads_opens i (pending.From r) n m ss above g es xs k (body_of m k) refl (subst P (append-nil g.asks) (st.known [] (body_at (rule m) k) t)) st
-  leads_choice i r n m ss above g es xs (Waits k ahead) t st = leads_asks i r k ahead n m ss above g es xs t st
+  leads_choice i r n m ss above g es xs (Waits k ahead) t w st = leads_asks i r k ahead n m ss above g es xs t w st
 
   leads_pending : (i : ℕ) (p : Pending) (n m : NonTerm) (ss : List Symbol) (above : List Row) (g : Gathered) (es : List Item) (xs : List Step) → Stands (at i p (row n (Non m ∷ ss)) above) g es xs → Leads g es xs (by_pending ts m i (row n ss) above p)
   leads_pending i (pending.From r) n m ss above g es xs st =
-      leads_choice i r n m ss above g es xs (choice r (drop r (rule m)) (first i) (second i)) (tells (drop r (rule m)) r (first i) (second i) i m refl) st
+      leads_choice i r n m ss above g es xs (choice r (drop r (rule m)) (first i) (second i)) (tells (drop r (rule m)) r (first i) (second i) i m refl) (within_rule i m r) st
   leads_pending i (pending.Waits k) n m ss above g es xs st = tt
-  leads_pending i (pending.Takes k) n m ss above g es xs st = leads_opens i (pending.Takes k) n m ss above g es xs k (body_of m k) refl st.known st
+  leads_pending i (pending.Takes k) n m ss above g es xs st = leads_opens i (pending.Takes k) n m ss above g es xs k (body_of m k) refl st.known.0 st
 
   leads_passes : (i : ℕ) (p : Pending) (n : NonTerm) (t : TermWord) (ss : List Symbol) (above : List Row) (g : Gathered) (es : List Item) (xs : List Step) (v : Verdict) → meets t (token_at ts i) ≡ v → Stands (at i p (row n (Term t ∷ ss)) above) g es xs → Leads g es xs (passes_by i (row n ss) above v)
   leads_passes i p n t ss above g es xs Holds e st =
@@ -251,10 +260,10 @@ module _ (ts : List Terminal) where
       }
   leads_on i p n above (Non m ∷ ss) g es xs st = leads_pending i p n m ss above g es xs st
 
-  leads : (c : OpenNodes) (g : Gathered) (es : List Item) (xs : List Step) (now : Move) → move ts c ≡ now → Stands c g es xs → Leads g es xs now
+  pub leads : (c : OpenNodes) (g : Gathered) (es : List Item) (xs : List Step) (now : Move) → move ts c ≡ now → Stands c g es xs → Leads g es xs now
   leads c g es xs now e st = subst (Leads g es xs) e (leads_on c.place c.pending c.inner.node c.above c.inner.rest g es xs st)
 
-  stands_run : {c d : OpenNodes} {g h : Gathered} {fs : List Item} {ys : List Step} (es : List Item) (xs : List Step) → Stands c g es xs → Run ts c g fs ys d h → Stands d h (es ++ fs) (xs ++ ys)
+  pub stands_run : {c d : OpenNodes} {g h : Gathered} {fs : List Item} {ys : List Step} (es : List Item) (xs : List Step) → Stands c g es xs → Run ts c g fs ys d h → Stands d h (es ++ fs) (xs ++ ys)
   stands_run {c} {g} es xs st stop = subst (λ z. Stands c g z (xs ++ [])) (sym (append-nil es)) (subst (λ z. Stands c g es z) (sym (append-nil xs)) st)
   stands_run {c} {d} {g} {h} {fs} es xs st (opens {d = b} {m} {xs = ys} now run) =
       subst (λ z. Stands d h (es ++ fs) z) (append_assoc xs (Opens m g.asks ∷ []) ys) (stands_run es (xs ++ Opens m g.asks ∷ []) (leads c g es xs (OpensTo m b) now st) run)
@@ -263,18 +272,18 @@ module _ (ts : List Terminal) where
   stands_run {c} {d} {g} {h} es xs st (passes {d = b} {i} {es = fs} {xs = ys} now run) =
       subst (λ z. Stands d h z (xs ++ Passes i ∷ ys)) (append_assoc es (Passed i ∷ []) fs)
       (subst (λ z. Stands d h ((es ++ Passed i ∷ []) ++ fs) z) (append_assoc xs (Passes i ∷ []) ys)
-      (stands_run (es ++ Passed i ∷ []) (xs ++ Passes i ∷ []) (leads c g es xs (Gives (Passed i) b) now st) run))
+      (stands_run (es ++ Passed i ∷ []) (xs ++ Passes i ∷ []) (leads c g es xs (PassesTo i b) now st) run))
   stands_run {c} {d} {g} {h} es xs st (acts {d = b} {x} {es = fs} {xs = ys} now run) =
       subst (λ z. Stands d h z (xs ++ Acts x ∷ ys)) (append_assoc es (Due x ∷ []) fs)
       (subst (λ z. Stands d h ((es ++ Due x ∷ []) ++ fs) z) (append_assoc xs (Acts x ∷ []) ys)
-      (stands_run (es ++ Due x ∷ []) (xs ++ Acts x ∷ []) (leads c g es xs (Gives (Due x) b) now st) run))
+      (stands_run (es ++ Due x ∷ []) (xs ++ Acts x ∷ []) (leads c g es xs (ActsTo x b) now st) run))
   stands_run {c} {d} {g} {h} {ys} es xs st (asks {d = b} {i} {es = fs} answer now run) =
       subst (λ z. Stands d h z (xs ++ ys)) (append_assoc es (Asked i answer ∷ []) fs)
       (stands_run (es ++ Asked i answer ∷ []) xs (leads c g es xs (AsksAt i b) now st answer) run)
 
   -- ---- at the end, and where a run is cut off
 
-  stands_first : Stands at_start at_first [] []
+  pub stands_first : Stands at_start at_first [] []
   stands_first = record { stack = (record { done = []; parts = refl; derives = refl }, refl); known = known_first 0 unit; given_are = refl }
 
   ends_passes : (i : ℕ) (inner : Row) (above : List Row) (v : Verdict) → passes_by i inner above v ≡ Ends → ⊥

@@ -13,7 +13,7 @@ use Rattle.cr_ll.specs.Derivation.{Item, Passed, Due, Asked, Trees, none, token,
 use Rattle.cr_ll.proofs.Complete.{rows_next}
 use Rattle.cr_binding.specs.Steps.{Step, Opens, Passes, Acts, Closes, steps}
 use Rattle.cr_nodes.specs.declared.pending.Pending.TheVariants as pending
-use Rattle.cr_nodes.specs.Moves.{Row, row, OpenNodes, at, Gives, opens_by, by_choice, passes_by, body_of}
+use Rattle.cr_nodes.specs.Moves.{Row, row, OpenNodes, at, PassesTo, ActsTo, opens_by, by_choice, passes_by, body_of}
 use Rattle.cr_nodes.specs.Gathering.{Branch, Gathered, gathered, followed_by, opening, closing}
 use Rattle.cr_nodes.specs.Laws.{Run, stop, opens, closes, passes, acts, asks}
 use Rattle.cr_nodes.proofs.Alternatives.{body_first}
@@ -115,7 +115,7 @@ module _ (ts : List Terminal) where
       let run' : P (followed_by (followed_by made (token k none)) next) = subst P (sym (followed_on made (token k none) next)) run in
       let later : Run ts (at (i + 1) (pending.From 0) (row m (ss ++ rest)) above) (with_trees n by out (followed_by made (token k none))) (events next ++ es) (steps next ++ xs) e h =
       whole next (i + 1) ss j m n rest above by out (followed_by made (token k none)) es xs e h d.2 run' in
-      passes (ap (λ z. passes_by i (row m (ss ++ rest)) above z) d.1 ∙ ap (λ z. Gives (Passed z) (at (i + 1) (pending.From 0) (row m (ss ++ rest)) above)) (sym d.0)) later
+      passes (ap (λ z. passes_by i (row m (ss ++ rest)) above z) d.1 ∙ ap (λ z. PassesTo z (at (i + 1) (pending.From 0) (row m (ss ++ rest)) above)) (sym d.0)) later
   whole (token k next) i (Non t ∷ ss) j m n rest above by out made es xs e h d run = absurd d
   whole (token k next) i (Act t ∷ ss) j m n rest above by out made es xs e h d run = absurd d
   whole (action x next) i [] j m n rest above by out made es xs e h d run = absurd d
@@ -124,7 +124,7 @@ module _ (ts : List Terminal) where
       let run' : P (followed_by (followed_by made (action x none)) next) = subst P (sym (followed_on made (action x none) next)) run in
       let later : Run ts (at i (pending.From 0) (row m (ss ++ rest)) above) (with_trees n by out (followed_by made (action x none))) (events next ++ es) (steps next ++ xs) e h =
       whole next i ss j m n rest above by out (followed_by made (action x none)) es xs e h d.1 run' in
-      acts (ap (λ z. Gives (Due z) (at i (pending.From 0) (row m (ss ++ rest)) above)) (sym d.0)) later
+      acts (ap (λ z. ActsTo z (at i (pending.From 0) (row m (ss ++ rest)) above)) (sym d.0)) later
   whole (action x next) i (Non b ∷ ss) j m n rest above by out made es xs e h d run = absurd d
   whole (action x next) i (Term b ∷ ss) j m n rest above by out made es xs e h d run = absurd d
   whole (node k asked children next) i [] j m n rest above by out made es xs e h d run = absurd d

@@ -10,19 +10,20 @@ use Rattle.cr_nodes.specs.declared.nodes.Before.{Before}
 use Rattle.cr_nodes.specs.declared.nodes.Before.TheVariants.{Opens, Closes, Nothing}
 use Rattle.cr_nodes.specs.declared.nodes.NodesFault.{NodesFault}
 use Rattle.cr_nodes.specs.declared.nodes.NodesFault.TheVariants.{Unfit, OutOfMemory}
-use Rattle.cr_nodes.specs.Moves.{OpenNodes, Move, OpensTo, ClosesTo, Gives, AsksAt, Ends, Faults}
+use Rattle.cr_nodes.specs.Moves.{OpenNodes, Move, OpensTo, ClosesTo, PassesTo, ActsTo, AsksAt, Ends, Faults}
 
 -- the event that a move waits for
 abbrev pub awaited : Move → Option Event
-awaited (Gives (Passed i) d) = Some (event.Token i)
-awaited (Gives (Due x) d) = Some (event.Act x)
+awaited (PassesTo i d) = Some (event.Token i)
+awaited (ActsTo x d) = Some (event.Act x)
 awaited (AsksAt i d) = Some (event.Ask i)
 awaited Ends = Some event.Done
 awaited _ = None
 
 -- what the open nodes are when the event that a move waits for has come
 abbrev pub taken : OpenNodes → Move → OpenNodes
-taken old (Gives x d) = d
+taken old (PassesTo i d) = d
+taken old (ActsTo x d) = d
 taken old (AsksAt i d) = d
 taken old _ = old
 

@@ -1,9 +1,11 @@
 -- What runs of the moves are: the steps of trees.
-use Rattle.std.specs.Prelude.{◌≡◌, ℕ, Bool, Ok, List, [], ◌∷◌, ◌++◌}
+use Rattle.std.specs.Prelude.{◌≡◌, ℕ, Bool, Ok, Err, List, [], ◌∷◌, ◌++◌}
 use Rattle.cr_grammar.specs.declared.symbols.NonTerm.{NonTerm}
 use Rattle.cr_grammar.specs.declared.symbols.Action.{Action}
 use Rattle.cr_ll.specs.Guards.{Terminal}
 use Rattle.cr_ll.specs.Derivation.{Item, Passed, Due, Asked, Trees, Derives, events}
+use Rattle.cr_ll.specs.Machine.{Config}
+use Rattle.cr_ll.specs.Machine as machine
 use Rattle.cr_ll.specs.Laws.{unit}
 use Rattle.cr_binding.specs.WellFormed.{Begins}
 use Rattle.cr_binding.specs.Steps.{Step, Opens, Passes, Acts, Closes, steps}
@@ -11,8 +13,9 @@ use Rattle.cr_ll.specs.declared.state.Event.{Event}
 use Rattle.cr_ll.specs.declared.state.Event.TheVariants as event
 use Rattle.cr_nodes.specs.declared.nodes.Before.{Before}
 use Rattle.cr_nodes.specs.declared.nodes.Before.TheVariants as before
+use Rattle.cr_nodes.specs.declared.nodes.NodesFault.TheVariants.{Unfit}
 use Rattle.cr_nodes.specs.Advancing.{Advances}
-use Rattle.cr_nodes.specs.Moves.{OpenNodes, at_start, Move, OpensTo, ClosesTo, Gives, AsksAt, Ends, Faults, move, replied}
+use Rattle.cr_nodes.specs.Moves.{OpenNodes, at_start, Move, OpensTo, ClosesTo, PassesTo, ActsTo, AsksAt, Ends, Faults, move, replied}
 use Rattle.cr_nodes.specs.Gathering.{Gathered, at_first, asking, passing, acting, opening, closing}
 
 -- A run is given events, makes these steps, and gathers trees on the way; an ask is counted with its reply.
@@ -20,8 +23,8 @@ pub data Run (ts : List Terminal) : OpenNodes → Gathered → List Item → Lis
   stop : {c : OpenNodes} {g : Gathered} → Run ts c g [] [] c g
   opens : {c d e : OpenNodes} {g h : Gathered} {m : NonTerm} {es : List Item} {xs : List Step} → move ts c ≡ OpensTo m d → Run ts d (opening m g) es xs e h → Run ts c g es (Opens m g.asks ∷ xs) e h
   closes : {c d e : OpenNodes} {g h : Gathered} {es : List Item} {xs : List Step} → move ts c ≡ ClosesTo d → Run ts d (closing g) es xs e h → Run ts c g es (Closes g.inner.children ∷ xs) e h
-  passes : {c d e : OpenNodes} {g h : Gathered} {i : ℕ} {es : List Item} {xs : List Step} → move ts c ≡ Gives (Passed i) d → Run ts d (passing i g) es xs e h → Run ts c g (Passed i ∷ es) (Passes i ∷ xs) e h
-  acts : {c d e : OpenNodes} {g h : Gathered} {x : Action} {es : List Item} {xs : List Step} → move ts c ≡ Gives (Due x) d → Run ts d (acting x g) es xs e h → Run ts c g (Due x ∷ es) (Acts x ∷ xs) e h
+  passes : {c d e : OpenNodes} {g h : Gathered} {i : ℕ} {es : List Item} {xs : List Step} → move ts c ≡ PassesTo i d → Run ts d (passing i g) es xs e h → Run ts c g (Passed i ∷ es) (Passes i ∷ xs) e h
+  acts : {c d e : OpenNodes} {g h : Gathered} {x : Action} {es : List Item} {xs : List Step} → move ts c ≡ ActsTo x d → Run ts d (acting x g) es xs e h → Run ts c g (Due x ∷ es) (Acts x ∷ xs) e h
   asks : {c d e : OpenNodes} {g h : Gathered} {i : ℕ} {es : List Item} {xs : List Step} (answer : Bool) → move ts c ≡ AsksAt i d → Run ts (replied answer d) (asking i answer g) es xs e h → Run ts c g (Asked i answer ∷ es) xs e h
 
 -- what a call that answered makes: an opening or closing, or the event itself; an ask comes with its reply
@@ -50,7 +53,8 @@ RunsJoin =
 abbrev pub Awaits : List Item → Move → Type 0
 Awaits es (OpensTo m d) = Unit {0}
 Awaits es (ClosesTo d) = Unit {0}
-Awaits es (Gives x d) = (more : List Item) × (es ≡ x ∷ more)
+Awaits es (PassesTo i d) = (more : List Item) × (es ≡ Passed i ∷ more)
+Awaits es (ActsTo x d) = (more : List Item) × (es ≡ Due x ∷ more)
 Awaits es (AsksAt i d) = (answer : Bool) × (more : List Item) × (es ≡ Asked i answer ∷ more)
 Awaits es Ends = es ≡ []
 Awaits es Faults = ⊥
@@ -88,3 +92,23 @@ RunsBegin =
     (ts : List Terminal) (es : List Item) (xs : List Step) (c : OpenNodes) (g : Gathered)
     → Run ts at_start at_first es xs c g
     → (trees : Trees) × (more : List Step) × Begins ts trees 0 unit × (steps trees ≡ xs ++ more) × AllClose more
+
+-- The next event that the machine of the grammar gives is waited for, after the same events.
+abbrev pub MachineFits : Type 0
+MachineFits =
+    (ts : List Terminal) (es more : List Item) (x : Item) (xs : List Step) (c : OpenNodes) (g : Gathered) (d : Config)
+    → Run ts at_start at_first es xs c g → machine.Run ts (machine.at 0 unit) (es ++ x ∷ more) d
+    → Awaits (x ∷ more) (move ts c)
+
+-- the event that begins what is left; the end, where nothing is
+abbrev pub event_of : List Item → Event
+event_of [] = event.Done
+event_of (Passed i ∷ es) = event.Token i
+event_of (Due x ∷ es) = event.Act x
+event_of (Asked i answer ∷ es) = event.Ask i
+
+-- What is waited for is no unfit event.
+abbrev pub AwaitedIsFit : Type 0
+AwaitedIsFit =
+    (ts : List Terminal) (es : List Item) (old new : OpenNodes)
+    → Awaits es (move ts old) → Advances (move ts old) old (event_of es) (Err Unfit) new → ⊥

@@ -2,6 +2,7 @@
 use Rattle.std.specs.Prelude.{ℕ, ◌+◌, Bool, if◌then◌else◌, Option, Some, None, List, [], ◌∷◌, drop, slice_get, option_map}
 use Rattle.cr_grammar.specs.declared.symbols.NonTerm.{NonTerm}
 use Rattle.cr_grammar.specs.declared.symbols.NonTerm.TheVariants as n
+use Rattle.cr_grammar.specs.declared.symbols.Action.{Action}
 use Rattle.cr_grammar.specs.declared.symbols.Symbol.{Symbol}
 use Rattle.cr_grammar.specs.declared.symbols.Symbol.TheVariants.{Term, Non, Act}
 use Rattle.cr_grammar.specs.Grammar.{rule, Row as Alternative}
@@ -10,7 +11,6 @@ use Rattle.cr_ll.specs.declared.guards.Verdict.TheVariants.{Holds}
 use Rattle.cr_ll.specs.declared.guards.Choice.{Choice}
 use Rattle.cr_ll.specs.declared.guards.Choice.TheVariants.{Nothing, Takes, Waits}
 use Rattle.cr_ll.specs.Guards.{Terminal, ask_at, token_at, meets, choice}
-use Rattle.cr_ll.specs.Derivation.{Item, Passed, Due}
 use Rattle.cr_ll.specs.Laws.{unit}
 use Rattle.cr_nodes.specs.declared.pending.Pending.{Pending}
 use Rattle.cr_nodes.specs.declared.pending.Pending.TheVariants as pending
@@ -41,7 +41,8 @@ at_start = at 0 (pending.From 0) (row n.Unit unit) []
 pub data Move : Type 0 where
   OpensTo : NonTerm → OpenNodes → Move
   ClosesTo : OpenNodes → Move
-  Gives : Item → OpenNodes → Move
+  PassesTo : ℕ → OpenNodes → Move
+  ActsTo : Action → OpenNodes → Move
   AsksAt : ℕ → OpenNodes → Move
   Ends : Move
   Faults : Move
@@ -70,7 +71,7 @@ by_pending ts m i upper above (pending.Waits k) = Faults
 by_pending ts m i upper above (pending.Takes k) = opens_by m i upper above (body_of m k)
 
 abbrev pub passes_by : ℕ → Row → List Row → Verdict → Move
-passes_by i inner above Holds = Gives (Passed i) (at (i + 1) (pending.From 0) inner above)
+passes_by i inner above Holds = PassesTo i (at (i + 1) (pending.From 0) inner above)
 passes_by i inner above _ = Faults
 
 -- a node is closed as soon as its row is used up
@@ -81,7 +82,7 @@ closes_by i (upper ∷ above) = ClosesTo (at i (pending.From 0) upper above)
 abbrev pub move_on : List Terminal → ℕ → Pending → NonTerm → List Row → List Symbol → Move
 move_on ts i p m above [] = closes_by i above
 move_on ts i p m above (Term t ∷ ss) = passes_by i (row m ss) above (meets t (token_at ts i))
-move_on ts i p m above (Act a ∷ ss) = Gives (Due a) (at i (pending.From 0) (row m ss) above)
+move_on ts i p m above (Act a ∷ ss) = ActsTo a (at i (pending.From 0) (row m ss) above)
 move_on ts i p m above (Non k ∷ ss) = by_pending ts k i (row m ss) above p
 
 abbrev pub move : List Terminal → OpenNodes → Move

@@ -7,7 +7,7 @@ mod nodes;
 mod pending;
 mod rows;
 
-pub use laws::{calls_are_a_run, runs_are_of_trees, steps_are_a_trees};
+pub use laws::{calls_are_a_run, runs_are_of_trees, steps_are_a_trees, the_machine_fits};
 pub use nodes::{Before, Nodes, NodesFault};
 
 #[cfg(test)]

@@ -3,7 +3,7 @@ ghost use Rattle.std.specs.Prelude.{◌≡◌, ◌+◌, ◌-◌, ◌≤◌, ◌<
 ghost use Rattle.cr_grammar.specs.Grammar.{rule};
 ghost use Rattle.cr_ll.specs.Derivation.{Due};
 ghost use Rattle.cr_ll.specs.Guards.{terminals, token_at, meets, choice};
-ghost use Rattle.cr_nodes.specs.Moves.{at, at_start, row, body_of, Gives, AsksAt, opens_by, by_choice, by_pending, passes_by, closes_by, move, replied};
+ghost use Rattle.cr_nodes.specs.Moves.{at, at_start, row, body_of, PassesTo, ActsTo, AsksAt, opens_by, by_choice, by_pending, passes_by, closes_by, move, replied};
 ghost use Rattle.cr_nodes.specs.Advancing.{Advances};
 ghost use Rattle.cr_nodes.specs.Falling.{Falls};
 
@@ -178,7 +178,7 @@ impl Nodes {
         rest: &'static [Symbol],
         event: Event,
     ) -> Result<Before, NodesFault>
-        ensures { Advances (Gives (Due action) (at self.old.place (Pending.From 0) (row self.old.inner.node rest.now) self.old.above)) self.old event result self.new }
+        ensures { Advances (ActsTo action (at self.old.place (Pending.From 0) (row self.old.inner.node rest.now) self.old.above)) self.old event result self.new }
     {
         if !is_act(event, action) {
             return Err(NodesFault::Unfit);
