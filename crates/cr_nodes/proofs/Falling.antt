@@ -41,15 +41,15 @@ opens_smaller m i upper above k (Some body) e =
     fine_lighter m body (upper.rest ++ left_above above) (body_fine m (rule m) k body (table_fine m) e) in
     omega arith
 
-choice_smaller : (m : NonTerm) (i : ℕ) (upper : Row) (above : List Row) (ch : Choice) → Smaller (2 * weight (Non m ∷ (upper.rest ++ left_above above)) + length above) (by_choice m i upper above ch)
-choice_smaller m i upper above Nothing = tt
-choice_smaller m i upper above (Takes k) = opens_smaller m i upper above k (body_of m k) refl
-choice_smaller m i upper above (Waits k ahead) = tt
+choice_smaller : (o : Bool) (m : NonTerm) (i : ℕ) (upper : Row) (above : List Row) (ch : Choice) → Smaller (2 * weight (Non m ∷ (upper.rest ++ left_above above)) + length above) (by_choice m i o upper above ch)
+choice_smaller o m i upper above Nothing = tt
+choice_smaller o m i upper above (Takes k) = opens_smaller m i upper above k (body_of m k) refl
+choice_smaller o m i upper above (Waits k ahead) = tt
 
-pending_smaller : (ts : List Terminal) (m : NonTerm) (i : ℕ) (upper : Row) (above : List Row) (p : Pending) → Smaller (2 * weight (Non m ∷ (upper.rest ++ left_above above)) + length above) (by_pending ts m i upper above p)
-pending_smaller ts m i upper above (pending.From k) = choice_smaller m i upper above (choice k (drop k (rule m)) (token_at ts i) (token_at ts (i + 1)))
-pending_smaller ts m i upper above (pending.Waits k) = tt
-pending_smaller ts m i upper above (pending.Takes k) = opens_smaller m i upper above k (body_of m k) refl
+pending_smaller : (o : Bool) (ts : List Terminal) (m : NonTerm) (i : ℕ) (upper : Row) (above : List Row) (p : Pending) → Smaller (2 * weight (Non m ∷ (upper.rest ++ left_above above)) + length above) (by_pending ts m i o upper above p)
+pending_smaller o ts m i upper above (pending.From k) = choice_smaller o m i upper above (choice k (drop k (rule m)) (token_at ts i) (token_at ts (i + 1)))
+pending_smaller o ts m i upper above (pending.Waits k) = tt
+pending_smaller o ts m i upper above (pending.Takes k) = opens_smaller m i upper above k (body_of m k) refl
 
 passes_smaller : (old i : ℕ) (inner : Row) (above : List Row) (v : Verdict) → Smaller old (passes_by i inner above v)
 passes_smaller old i inner above Holds = tt
@@ -60,14 +60,14 @@ closes_smaller : (i : ℕ) (above : List Row) → Smaller (2 * weight (left_abov
 closes_smaller i [] = tt
 closes_smaller i (upper ∷ above) = omega arith
 
-smaller_on : (ts : List Terminal) (i : ℕ) (p : Pending) (m : NonTerm) (above : List Row) (ss : List Symbol) → Smaller (2 * weight (ss ++ left_above above) + length above) (move_on ts i p m above ss)
-smaller_on ts i p m above [] = closes_smaller i above
-smaller_on ts i p m above (Term t ∷ ss) = passes_smaller _ i (row m ss) above (meets t (token_at ts i))
-smaller_on ts i p m above (Act a ∷ ss) = tt
-smaller_on ts i p m above (Non k ∷ ss) = pending_smaller ts k i (row m ss) above p
+smaller_on : (o : Bool) (ts : List Terminal) (i : ℕ) (p : Pending) (m : NonTerm) (above : List Row) (ss : List Symbol) → Smaller (2 * weight (ss ++ left_above above) + length above) (move_on ts i p o m above ss)
+smaller_on o ts i p m above [] = closes_smaller i above
+smaller_on o ts i p m above (Term t ∷ ss) = passes_smaller _ i (row m ss) above (meets t (token_at ts i))
+smaller_on o ts i p m above (Act a ∷ ss) = tt
+smaller_on o ts i p m above (Non k ∷ ss) = pending_smaller o ts k i (row m ss) above p
 
 smaller : (ts : List Terminal) (c : OpenNodes) → Smaller (at_most c) (move ts c)
-smaller ts c = smaller_on ts c.place c.pending c.inner.node c.above c.inner.rest
+smaller ts c = smaller_on c.childless ts c.place c.pending c.inner.node c.above c.inner.rest
 
 pub falls : (ts : List Terminal) (old new : OpenNodes) (x : Event) (result : Result Before NodesFault) → Advances (move ts old) old x result new → Falls old result new
 falls ts old new x (Ok (before.Opens m)) a = subst (Smaller (at_most old)) a (smaller ts old)

@@ -105,23 +105,23 @@ module _ (ts : List Terminal) where
       subst (λ z. Follows c (opens_by m i (row n ss) above z)) (sym is)
       (λ zs x e r. subst (λ z. machine.Run ts z (x ∷ zs) e) (sym (machine_first i (row n ss ∷ above) (body_at (rule m) k))) (run zs x e r))
 
-  replied_same : (i r k : ℕ) (n m : NonTerm) (ss : List Symbol) (above : List Row) (answer : Bool) → machine.replied (machine_by i above m ss (pending.From r)) k answer ≡ machine_of (replied answer (at i (pending.Waits k) (row n (Non m ∷ ss)) above))
-  replied_same i r k n m ss above true = refl
-  replied_same i r k n m ss above false = refl
+  replied_same : (o : Bool) (i r k : ℕ) (n m : NonTerm) (ss : List Symbol) (above : List Row) (answer : Bool) → machine.replied (machine_by i above m ss (pending.From r)) k answer ≡ machine_of (replied answer (at i (pending.Waits k) o (row n (Non m ∷ ss)) above))
+  replied_same o i r k n m ss above true = refl
+  replied_same o i r k n m ss above false = refl
 
-  follows_choice : (i r : ℕ) (n m : NonTerm) (ss : List Symbol) (above : List Row) (ch : Choice) → choice r (drop r (rule m)) (token_at ts i) (token_at ts (i + 1)) ≡ ch → IsWithin ch (length (rule m)) → Follows (machine_by i above m ss (pending.From r)) (by_choice m i (row n ss) above ch)
-  follows_choice i r n m ss above Nothing e w = ap (λ z. machine.move_by z i m (left ss above)) e
-  follows_choice i r n m ss above (Takes k) e w =
+  follows_choice : (o : Bool) (i r : ℕ) (n m : NonTerm) (ss : List Symbol) (above : List Row) (ch : Choice) → choice r (drop r (rule m)) (token_at ts i) (token_at ts (i + 1)) ≡ ch → IsWithin ch (length (rule m)) → Follows (machine_by i above m ss (pending.From r)) (by_choice m i o (row n ss) above ch)
+  follows_choice o i r n m ss above Nothing e w = ap (λ z. machine.move_by z i m (left ss above)) e
+  follows_choice o i r n m ss above (Takes k) e w =
       follows_opens i n m ss above (machine_by i above m ss (pending.From r)) k (body_there (rule m) k w)
       (λ zs x f run. run_opens x zs refl (ap (λ z. machine.move_by z i m (left ss above)) e) run)
-  follows_choice i r n m ss above (Waits k ahead) e w =
-      (k, ap (λ z. machine.move_by z i m (left ss above)) e, λ answer. replied_same i r k n m ss above answer)
+  follows_choice o i r n m ss above (Waits k ahead) e w =
+      (k, ap (λ z. machine.move_by z i m (left ss above)) e, λ answer. replied_same o i r k n m ss above answer)
 
-  follows_pending : (i : ℕ) (p : Pending) (n m : NonTerm) (ss : List Symbol) (above : List Row) (by : List Item) → Known ts i m by p → Follows (machine_by i above m ss p) (by_pending ts m i (row n ss) above p)
-  follows_pending i (pending.From r) n m ss above by known =
-      follows_choice i r n m ss above (choice r (drop r (rule m)) (token_at ts i) (token_at ts (i + 1))) refl (within_rule ts i m r)
-  follows_pending i (pending.Waits k) n m ss above by known = absurd known
-  follows_pending i (pending.Takes k) n m ss above by known =
+  follows_pending : (o : Bool) (i : ℕ) (p : Pending) (n m : NonTerm) (ss : List Symbol) (above : List Row) (by : List Item) → Known ts i m by p → Follows (machine_by i above m ss p) (by_pending ts m i o (row n ss) above p)
+  follows_pending o i (pending.From r) n m ss above by known =
+      follows_choice o i r n m ss above (choice r (drop r (rule m)) (token_at ts i) (token_at ts (i + 1))) refl (within_rule ts i m r)
+  follows_pending o i (pending.Waits k) n m ss above by known = absurd known
+  follows_pending o i (pending.Takes k) n m ss above by known =
       follows_opens i n m ss above (machine_by i above m ss (pending.Takes k)) k known.1 (λ zs x f run. run)
 
   follows_passes : (i : ℕ) (n : NonTerm) (t : TermWord) (ss : List Symbol) (above : List Row) (v : Verdict) → meets t (token_at ts i) ≡ v → Follows (machine.at i (Term t ∷ left ss above)) (passes_by i (row n ss) above v)
@@ -134,14 +134,14 @@ module _ (ts : List Terminal) where
   follows_closes i [] = refl
   follows_closes i (upper ∷ above) = sym (machine_first i above upper.rest)
 
-  follows_on : (i : ℕ) (p : Pending) (n : NonTerm) (above : List Row) (ss : List Symbol) (by : List Item) → KnownOf ts i by p ss → Follows (machine_on i p above ss) (move_on ts i p n above ss)
-  follows_on i p n above [] by known = follows_closes i above
-  follows_on i p n above (Term t ∷ ss) by known = follows_passes i n t ss above (meets t (token_at ts i)) refl
-  follows_on i p n above (Act x ∷ ss) by known = ap (λ z. machine.Gives (Due x) z) (sym (machine_first i above ss))
-  follows_on i p n above (Non m ∷ ss) by known = follows_pending i p n m ss above by known
+  follows_on : (o : Bool) (i : ℕ) (p : Pending) (n : NonTerm) (above : List Row) (ss : List Symbol) (by : List Item) → KnownOf ts i by p ss → Follows (machine_on i p above ss) (move_on ts i p o n above ss)
+  follows_on o i p n above [] by known = follows_closes i above
+  follows_on o i p n above (Term t ∷ ss) by known = follows_passes i n t ss above (meets t (token_at ts i)) refl
+  follows_on o i p n above (Act x ∷ ss) by known = ap (λ z. machine.Gives (Due x) z) (sym (machine_first i above ss))
+  follows_on o i p n above (Non m ∷ ss) by known = follows_pending o i p n m ss above by known
 
   follows : (c : OpenNodes) (by : List Item) → KnownOf ts c.place by c.pending c.inner.rest → Follows (machine_of c) (move ts c)
-  follows c by known = follows_on c.place c.pending c.inner.node c.above c.inner.rest by known
+  follows c by known = follows_on c.childless c.place c.pending c.inner.node c.above c.inner.rest by known
 
   follows_by : {g : Gathered} {es : List Item} {xs : List Step} (c : OpenNodes) (now : Move) → Stands ts c g es xs → move ts c ≡ now → Follows (machine_of c) now
   follows_by {g} c now st e = subst (Follows (machine_of c)) e (follows c g.asks st.known)

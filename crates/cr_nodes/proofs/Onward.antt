@@ -1,5 +1,5 @@
 -- How a run to the end goes on from where another one came to.
-use Rattle.std.proofs.Common.{◌≡◌, ℕ, Bool, List, [], ◌∷◌, ◌++◌, refl, sym, ◌∙◌, ap, subst}
+use Rattle.std.proofs.Common.{◌≡◌, ℕ, Bool, true, List, [], ◌∷◌, ◌++◌, refl, sym, ◌∙◌, ap, subst}
 use Rattle.std.proofs.lemmas.List.{append-nil}
 use Rattle.cr_grammar.specs.declared.symbols.NonTerm.{NonTerm}
 use Rattle.cr_grammar.specs.declared.symbols.NonTerm.TheVariants as n
@@ -12,7 +12,7 @@ use Rattle.cr_nodes.specs.declared.pending.Pending.TheVariants as pending
 use Rattle.cr_nodes.specs.Moves.{row, OpenNodes, at, at_start, OpensTo, ClosesTo, PassesTo, ActsTo, AsksAt, Ends, move, replied}
 use Rattle.cr_nodes.specs.Gathering.{Gathered, gathered, at_first, asking, passing, acting, opening, closing}
 use Rattle.cr_nodes.specs.Laws.{Run, stop, opens, closes, passes, acts, asks, Awaits, StepsAreATrees, AllStepsAreMade}
-use Rattle.cr_nodes.proofs.Whole.{whole}
+use Rattle.cr_nodes.proofs.Whole.{still, whole}
 
 -- a run to the end takes the move that there is
 pub next_opens : {ts : List Terminal} {c e : OpenNodes} {g k : Gathered} {es : List Item} {xs : List Step} → (m : NonTerm) (d : OpenNodes) → move ts c ≡ OpensTo m d → move ts e ≡ Ends → Run ts c g es xs e k → (later : List Step) × (xs ≡ Opens m g.asks ∷ later) × Run ts d (opening m g) es later e k
@@ -122,26 +122,26 @@ awaited {more} end (passes {es} now run) = subst (λ z. Awaits more z) (sym now)
 awaited {more} end (acts {es} now run) = subst (λ z. Awaits more z) (sym now) (es, refl)
 awaited {more} end (asks {es} answer now run) = subst (λ z. Awaits more z) (sym now) (answer, es, refl)
 
-abbrev at_end : ℕ → OpenNodes
-at_end j = at j (pending.From 0) (row n.Unit []) []
+abbrev at_end : ℕ → Trees → OpenNodes
+at_end j tree = at j (pending.From 0) (still true tree) (row n.Unit []) []
 
 abbrev with_tree : Trees → Gathered
 with_tree tree = gathered [] n.Unit [] tree []
 
-pub tree_run : (ts : List Terminal) (tree : Trees) (j : ℕ) → Derives ts tree 0 unit j → Run ts at_start at_first (events tree) (steps tree) (at_end j) (with_tree tree)
+pub tree_run : (ts : List Terminal) (tree : Trees) (j : ℕ) → Derives ts tree 0 unit j → Run ts at_start at_first (events tree) (steps tree) (at_end j tree) (with_tree tree)
 tree_run ts tree j d =
-    let run : Run ts at_start at_first (events tree ++ []) (steps tree ++ []) (at_end j) (with_tree tree) =
-    whole ts tree 0 unit j n.Unit n.Unit [] [] [] [] none [] [] (at_end j) (with_tree tree) d stop in
-    let P : List Item → Type 0 = λ z. Run ts at_start at_first z (steps tree ++ []) (at_end j) (with_tree tree) in
-    let Q : List Step → Type 0 = λ z. Run ts at_start at_first (events tree) z (at_end j) (with_tree tree) in
+    let run : Run ts at_start at_first (events tree ++ []) (steps tree ++ []) (at_end j tree) (with_tree tree) =
+    whole ts true tree 0 unit j n.Unit n.Unit [] [] [] [] none [] [] (at_end j tree) (with_tree tree) d stop in
+    let P : List Item → Type 0 = λ z. Run ts at_start at_first z (steps tree ++ []) (at_end j tree) (with_tree tree) in
+    let Q : List Step → Type 0 = λ z. Run ts at_start at_first (events tree) z (at_end j tree) (with_tree tree) in
     subst Q (append-nil (steps tree)) (subst P (append-nil (events tree)) run)
 
-pub tree_rest : (ts : List Terminal) (tree : Trees) (j : ℕ) (es more : List Item) (xs : List Step) (c : OpenNodes) (g : Gathered) → Derives ts tree 0 unit j → events tree ≡ es ++ more → Run ts at_start at_first es xs c g → Rest ts c (at_end j) g (with_tree tree) more xs (steps tree)
+pub tree_rest : (ts : List Terminal) (tree : Trees) (j : ℕ) (es more : List Item) (xs : List Step) (c : OpenNodes) (g : Gathered) → Derives ts tree 0 unit j → events tree ≡ es ++ more → Run ts at_start at_first es xs c g → Rest ts c (at_end j tree) g (with_tree tree) more xs (steps tree)
 tree_rest ts tree j es more xs c g d eq run = rest more (events tree) (steps tree) refl (tree_run ts tree j d) eq run
 
 pub steps_are_a_trees : StepsAreATrees
 steps_are_a_trees ts tree j es more xs c g d eq run =
-    let r : Rest ts c (at_end j) g (with_tree tree) more xs (steps tree) = tree_rest ts tree j es more xs c g d eq run in
+    let r : Rest ts c (at_end j tree) g (with_tree tree) more xs (steps tree) = tree_rest ts tree j es more xs c g d eq run in
     ((r.later, r.steps_are), awaited refl r.run)
 
 -- nothing comes after the end
@@ -155,6 +155,6 @@ after_end is (asks answer now run) = cc
 
 pub all_steps_are_made : AllStepsAreMade
 all_steps_are_made ts tree j es more xs c g d eq run end =
-    let r : Rest ts c (at_end j) g (with_tree tree) more xs (steps tree) = tree_rest ts tree j es more xs c g d eq run in
+    let r : Rest ts c (at_end j tree) g (with_tree tree) more xs (steps tree) = tree_rest ts tree j es more xs c g d eq run in
     let a : (more ≡ []) × (r.later ≡ []) × (with_tree tree ≡ g) = after_end end r.run in
     (a.0, sym (r.steps_are ∙ ap (λ z. xs ++ z) a.1 ∙ append-nil xs), sym (ap (λ (z : Gathered). z.inner.children) a.2))

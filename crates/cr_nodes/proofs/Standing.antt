@@ -18,13 +18,14 @@ use Rattle.cr_ll.specs.Derivation.{Item, Passed, Due, Asked, Trees, none, token,
 use Rattle.cr_ll.specs.Laws.{unit}
 use Rattle.cr_ll.proofs.Asking.{choice_within, drop_within}
 use Rattle.cr_ll.proofs.Sound.{tells, Tells}
+use Rattle.cr_binding.specs.Binding.{is_empty}
 use Rattle.cr_binding.specs.WellFormed.{Begins}
 use Rattle.cr_binding.specs.Steps.{Step, Opens, Passes, Acts, Closes, steps, given, StepsAreEvents}
 use Rattle.cr_nodes.specs.declared.pending.Pending.{Pending}
 use Rattle.cr_nodes.specs.declared.pending.Pending.TheVariants as pending
 use Rattle.cr_nodes.specs.Moves.{Row, row, OpenNodes, at, at_start, Move, OpensTo, ClosesTo, PassesTo, ActsTo, AsksAt, Ends, Faults, body_of, opens_by, by_choice, by_pending, passes_by, closes_by, move_on, move, answered, replied}
 use Rattle.cr_nodes.specs.Gathering.{Branch, Gathered, gathered, followed_by, at_first, with_child, asking, passing, acting, opening, closing}
-use Rattle.cr_nodes.specs.Laws.{Run, stop, opens, closes, passes, acts, asks, RunsDerive, RunsBegin, AllClose}
+use Rattle.cr_nodes.specs.Laws.{Run, stop, opens, closes, passes, acts, asks, RunsDerive, RunsBegin, ChildrenAreTold, AllClose}
 
 -- ---- rows of trees one behind another
 
@@ -35,6 +36,12 @@ steps_followed (action x f) g = ap (λ z. Acts x ∷ z) (steps_followed f g)
 steps_followed (node m by c f) g =
     ap (λ z. Opens m by ∷ (steps c ++ Closes c ∷ z)) (steps_followed f g)
     ∙ ap (λ z. Opens m by ∷ z) (sym (append_assoc (steps c) (Closes c ∷ steps f) (steps g)))
+
+not_empty : (f one : Trees) → is_empty one ≡ false → false ≡ is_empty (followed_by f one)
+not_empty none one e = sym e
+not_empty (token i f) one e = refl
+not_empty (action x f) one e = refl
+not_empty (node m by c f) one e = refl
 
 -- what is given of one step more
 given_last : (xs : List Step) (x : Step) → flat_map given (xs ++ x ∷ []) ≡ flat_map given xs ++ given x
@@ -95,13 +102,14 @@ module _ (ts : List Terminal) where
 
   -- the open nodes stand one in the other, and these steps were made
   abbrev pub Stack : ℕ → Row → Branch → List Step → List Row → List Branch → Type 0
-  Stack i inner b xs [] [] = InRow 0 unit inner.rest b.children i × (xs ≡ steps b.children)
+  Stack i inner b xs [] [] = InRow 0 unit inner.rest b.children i × (xs ≡ steps b.children) × (inner.node ≡ b.node)
   Stack i inner b xs (upper ∷ above) (v ∷ vs) =
       (k : ℕ) × (body : List Symbol) × (before : List Step)
       × Chosen (rule b.node) (token_at ts k) (token_at ts (k + 1)) k b.asks body
       × InRow k body inner.rest b.children i
       × Stack k (row upper.node (Non b.node ∷ upper.rest)) v before above vs
       × (xs ≡ before ++ Opens b.node b.asks ∷ steps b.children)
+      × (inner.node ≡ b.node)
   Stack i inner b xs _ _ = ⊥
 
   longer : (k : ℕ) (body : List Symbol) (i j : ℕ) (s : Symbol) (ss : List Symbol) (b : Branch) (one : Trees) → Derives ts one i (s ∷ []) j → InRow k body (s ∷ ss) b.children i → InRow k body ss (followed_by b.children one) j
@@ -116,14 +124,14 @@ module _ (ts : List Terminal) where
   extends : (i j : ℕ) (m : NonTerm) (s : Symbol) (ss : List Symbol) (b : Branch) (xs : List Step) (above : List Row) (vs : List Branch) (one : Trees) → Derives ts one i (s ∷ []) j → Stack i (row m (s ∷ ss)) b xs above vs → Stack j (row m ss) (with_child one b) (xs ++ steps one) above vs
   extends i j m s ss b xs [] [] one d st =
       (longer 0 unit i j s ss b one d st.0,
-      ap (λ z. z ++ steps one) st.1 ∙ sym (steps_followed b.children one))
+      ap (λ z. z ++ steps one) st.1 ∙ sym (steps_followed b.children one), st.2)
   extends i j m s ss b xs [] (v ∷ vs) one d st = absurd st
   extends i j m s ss b xs (upper ∷ above) [] one d st = absurd st
   extends i j m s ss b xs (upper ∷ above) (v ∷ vs) one d st =
       (st.0, st.1, st.2, st.3, longer st.0 st.1 i j s ss b one d st.4, st.5,
       ap (λ z. z ++ steps one) st.6
       ∙ append_assoc st.2 (Opens b.node b.asks ∷ steps b.children) (steps one)
-      ∙ ap (λ z. st.2 ++ Opens b.node b.asks ∷ z) (sym (steps_followed b.children one)))
+      ∙ ap (λ z. st.2 ++ Opens b.node b.asks ∷ z) (sym (steps_followed b.children one)), st.7)
 
   -- ---- what is known of the next node, by the asks since the last step
 
@@ -154,6 +162,7 @@ module _ (ts : List Terminal) where
     pub stack : Stack c.place c.inner g.inner xs c.above g.above
     pub known : KnownOf c.place g.asks c.pending c.inner.rest
     pub given_are : es ≡ flat_map given xs ++ g.asks
+    pub childless_is : c.childless ≡ is_empty g.inner.children
 
   -- ---- a move more
 
@@ -175,62 +184,66 @@ module _ (ts : List Terminal) where
   Leads g es xs Ends = Unit {0}
   Leads g es xs Faults = Unit {0}
 
-  leads_opens : (i : ℕ) (p : Pending) (n m : NonTerm) (ss : List Symbol) (above : List Row) (g : Gathered) (es : List Item) (xs : List Step) (k : ℕ) (body : Option (List Symbol)) → body_of m k ≡ body → Chosen (rule m) (first i) (second i) i g.asks (body_at (rule m) k) → Stands (at i p (row n (Non m ∷ ss)) above) g es xs → Leads g es xs (opens_by m i (row n ss) above body)
-  leads_opens i p n m ss above g es xs k None e c st = tt
-  leads_opens i p n m ss above g es xs k (Some body) e c st =
+  leads_opens : (o : Bool) (i : ℕ) (p : Pending) (n m : NonTerm) (ss : List Symbol) (above : List Row) (g : Gathered) (es : List Item) (xs : List Step) (k : ℕ) (body : Option (List Symbol)) → body_of m k ≡ body → Chosen (rule m) (first i) (second i) i g.asks (body_at (rule m) k) → Stands (at i p o (row n (Non m ∷ ss)) above) g es xs → Leads g es xs (opens_by m i (row n ss) above body)
+  leads_opens o i p n m ss above g es xs k None e c st = tt
+  leads_opens o i p n m ss above g es xs k (Some body) e c st =
       let P : List Symbol → Type 0 = λ z. Chosen (rule m) (first i) (second i) i g.asks z in
       record {
-        stack = (i, body, xs, subst P (body_same (rule m) k body e) c, record { done = []; parts = refl; derives = refl }, st.stack, refl);
+        stack = (i, body, xs, subst P (body_same (rule m) k body e) c, record { done = []; parts = refl; derives = refl }, st.stack, refl, refl);
         known = known_first i body;
         given_are = given_more xs (Opens m g.asks) es g.asks st.given_are refl;
+        childless_is = refl;
       }
 
-  leads_asks : (i r k ahead : ℕ) (n m : NonTerm) (ss : List Symbol) (above : List Row) (g : Gathered) (es : List Item) (xs : List Step) → Tells (drop r (rule m)) r (first i) (second i) i m (Waits k ahead) → k < length (rule m) → Stands (at i (pending.From r) (row n (Non m ∷ ss)) above) g es xs → (answer : Bool) → Stands (at i (answered answer (pending.Waits k)) (row n (Non m ∷ ss)) above) (asking (ask_at i ahead) answer g) (es ++ Asked (ask_at i ahead) answer ∷ []) xs
-  leads_asks i r k ahead n m ss above g es xs t w st true =
+  leads_asks : (o : Bool) (i r k ahead : ℕ) (n m : NonTerm) (ss : List Symbol) (above : List Row) (g : Gathered) (es : List Item) (xs : List Step) → Tells (drop r (rule m)) r (first i) (second i) i m (Waits k ahead) → k < length (rule m) → Stands (at i (pending.From r) o (row n (Non m ∷ ss)) above) g es xs → (answer : Bool) → Stands (at i (answered answer (pending.Waits k)) o (row n (Non m ∷ ss)) above) (asking (ask_at i ahead) answer g) (es ++ Asked (ask_at i ahead) answer ∷ []) xs
+  leads_asks o i r k ahead n m ss above g es xs t w st true =
       record {
         stack = st.stack;
         known = (st.known (Asked (ask_at i ahead) true ∷ []) (body_at (rule m) k) t.0, body_there (rule m) k w);
         given_are = ap (λ z. z ++ Asked (ask_at i ahead) true ∷ []) st.given_are ∙ append_assoc (flat_map given xs) g.asks (Asked (ask_at i ahead) true ∷ []);
+        childless_is = st.childless_is;
       }
-  leads_asks i r k ahead n m ss above g es xs t w st false =
+  leads_asks o i r k ahead n m ss above g es xs t w st false =
       record {
         stack = st.stack;
         known = λ more body c.
             let P : List Item → Type 0 = λ z. Chosen (rule m) (first i) (second i) i z body in
             subst P (sym (append_assoc g.asks (Asked (ask_at i ahead) false ∷ []) more)) (st.known (Asked (ask_at i ahead) false ∷ more) body (t.1 more body c));
         given_are = ap (λ z. z ++ Asked (ask_at i ahead) false ∷ []) st.given_are ∙ append_assoc (flat_map given xs) g.asks (Asked (ask_at i ahead) false ∷ []);
+        childless_is = st.childless_is;
       }
 
   pub within_rule : (i : ℕ) (m : NonTerm) (r : ℕ) → IsWithin (choice r (drop r (rule m)) (first i) (second i)) (length (rule m))
   within_rule i m r = choice_within (drop r (rule m)) r (first i) (second i) (length (rule m)) (drop_within (rule m) r)
 
-  leads_choice : (i r : ℕ) (n m : NonTerm) (ss : List Symbol) (above : List Row) (g : Gathered) (es : List Item) (xs : List Step) (ch : Choice) → Tells (drop r (rule m)) r (first i) (second i) i m ch → IsWithin ch (length (rule m)) → Stands (at i (pending.From r) (row n (Non m ∷ ss)) above) g es xs → Leads g es xs (by_choice m i (row n ss) above ch)
-  leads_choice i r n m ss above g es xs Nothing t w st = tt
-  leads_choice i r n m ss above g es xs (Takes k) t w st =
+  leads_choice : (o : Bool) (i r : ℕ) (n m : NonTerm) (ss : List Symbol) (above : List Row) (g : Gathered) (es : List Item) (xs : List Step) (ch : Choice) → Tells (drop r (rule m)) r (first i) (second i) i m ch → IsWithin ch (length (rule m)) → Stands (at i (pending.From r) o (row n (Non m ∷ ss)) above) g es xs → Leads g es xs (by_choice m i o (row n ss) above ch)
+  leads_choice o i r n m ss above g es xs Nothing t w st = tt
+  leads_choice o i r n m ss above g es xs (Takes k) t w st =
       let P : List Item → Type 0 = λ z. Chosen (rule m) (first i) (second i) i z (body_at (rule m) k) in
-      leads_opens i (pending.From r) n m ss above g es xs k (body_of m k) refl (subst P (append-nil g.asks) (st.known [] (body_at (rule m) k) t)) st
-  leads_choice i r n m ss above g es xs (Waits k ahead) t w st = leads_asks i r k ahead n m ss above g es xs t w st
+      leads_opens o i (pending.From r) n m ss above g es xs k (body_of m k) refl (subst P (append-nil g.asks) (st.known [] (body_at (rule m) k) t)) st
+  leads_choice o i r n m ss above g es xs (Waits k ahead) t w st = leads_asks o i r k ahead n m ss above g es xs t w st
 
-  leads_pending : (i : ℕ) (p : Pending) (n m : NonTerm) (ss : List Symbol) (above : List Row) (g : Gathered) (es : List Item) (xs : List Step) → Stands (at i p (row n (Non m ∷ ss)) above) g es xs → Leads g es xs (by_pending ts m i (row n ss) above p)
-  leads_pending i (pending.From r) n m ss above g es xs st =
-      leads_choice i r n m ss above g es xs (choice r (drop r (rule m)) (first i) (second i)) (tells (drop r (rule m)) r (first i) (second i) i m refl) (within_rule i m r) st
-  leads_pending i (pending.Waits k) n m ss above g es xs st = tt
-  leads_pending i (pending.Takes k) n m ss above g es xs st = leads_opens i (pending.Takes k) n m ss above g es xs k (body_of m k) refl st.known.0 st
+  leads_pending : (o : Bool) (i : ℕ) (p : Pending) (n m : NonTerm) (ss : List Symbol) (above : List Row) (g : Gathered) (es : List Item) (xs : List Step) → Stands (at i p o (row n (Non m ∷ ss)) above) g es xs → Leads g es xs (by_pending ts m i o (row n ss) above p)
+  leads_pending o i (pending.From r) n m ss above g es xs st =
+      leads_choice o i r n m ss above g es xs (choice r (drop r (rule m)) (first i) (second i)) (tells (drop r (rule m)) r (first i) (second i) i m refl) (within_rule i m r) st
+  leads_pending o i (pending.Waits k) n m ss above g es xs st = tt
+  leads_pending o i (pending.Takes k) n m ss above g es xs st = leads_opens o i (pending.Takes k) n m ss above g es xs k (body_of m k) refl st.known.0 st
 
-  leads_passes : (i : ℕ) (p : Pending) (n : NonTerm) (t : TermWord) (ss : List Symbol) (above : List Row) (g : Gathered) (es : List Item) (xs : List Step) (v : Verdict) → meets t (token_at ts i) ≡ v → Stands (at i p (row n (Term t ∷ ss)) above) g es xs → Leads g es xs (passes_by i (row n ss) above v)
-  leads_passes i p n t ss above g es xs Holds e st =
+  leads_passes : (o : Bool) (i : ℕ) (p : Pending) (n : NonTerm) (t : TermWord) (ss : List Symbol) (above : List Row) (g : Gathered) (es : List Item) (xs : List Step) (v : Verdict) → meets t (token_at ts i) ≡ v → Stands (at i p o (row n (Term t ∷ ss)) above) g es xs → Leads g es xs (passes_by i (row n ss) above v)
+  leads_passes o i p n t ss above g es xs Holds e st =
       record {
         stack = extends i (i + 1) n (Term t) ss g.inner xs above g.above (token i none) (refl, e, refl) st.stack;
         known = known_first (i + 1) ss;
         given_are = given_next xs (Passes i) es (Passed i) refl (st.given_are ∙ ap (λ z. flat_map given xs ++ z) st.known);
+        childless_is = not_empty g.inner.children (token i none) refl;
       }
-  leads_passes i p n t ss above g es xs Fails e st = tt
-  leads_passes i p n t ss above g es xs (Asks k) e st = tt
+  leads_passes o i p n t ss above g es xs Fails e st = tt
+  leads_passes o i p n t ss above g es xs (Asks k) e st = tt
 
-  leads_closes : (i : ℕ) (p : Pending) (n : NonTerm) (above : List Row) (by : List Item) (b : Branch) (vs : List Branch) (es : List Item) (xs : List Step) → Stands (at i p (row n []) above) (record { asks = by; inner = b; above = vs }) es xs → Leads (record { asks = by; inner = b; above = vs }) es xs (closes_by i above)
-  leads_closes i p n [] by b vs es xs st = tt
-  leads_closes i p n (upper ∷ above) by b [] es xs st = absurd st.stack
-  leads_closes i p n (upper ∷ above) by b (v ∷ vs) es xs st =
+  leads_closes : (o : Bool) (i : ℕ) (p : Pending) (n : NonTerm) (above : List Row) (by : List Item) (b : Branch) (vs : List Branch) (es : List Item) (xs : List Step) → Stands (at i p o (row n []) above) (record { asks = by; inner = b; above = vs }) es xs → Leads (record { asks = by; inner = b; above = vs }) es xs (closes_by i above)
+  leads_closes o i p n [] by b vs es xs st = tt
+  leads_closes o i p n (upper ∷ above) by b [] es xs st = absurd st.stack
+  leads_closes o i p n (upper ∷ above) by b (v ∷ vs) es xs st =
       let k : ℕ = st.stack.0 in
       let body : List Symbol = st.stack.1 in
       let before : List Step = st.stack.2 in
@@ -247,21 +260,23 @@ module _ (ts : List Terminal) where
         stack = subst Q (sym eq) all;
         known = known_first i upper.rest;
         given_are = given_more xs (Closes b.children) es by st.given_are st.known;
+        childless_is = not_empty v.children one refl;
       }
 
-  leads_on : (i : ℕ) (p : Pending) (n : NonTerm) (above : List Row) (ss : List Symbol) (g : Gathered) (es : List Item) (xs : List Step) → Stands (at i p (row n ss) above) g es xs → Leads g es xs (move_on ts i p n above ss)
-  leads_on i p n above [] g es xs st = leads_closes i p n above g.asks g.inner g.above es xs st
-  leads_on i p n above (Term t ∷ ss) g es xs st = leads_passes i p n t ss above g es xs (meets t (token_at ts i)) refl st
-  leads_on i p n above (Act x ∷ ss) g es xs st =
+  leads_on : (o : Bool) (i : ℕ) (p : Pending) (n : NonTerm) (above : List Row) (ss : List Symbol) (g : Gathered) (es : List Item) (xs : List Step) → Stands (at i p o (row n ss) above) g es xs → Leads g es xs (move_on ts i p o n above ss)
+  leads_on o i p n above [] g es xs st = leads_closes o i p n above g.asks g.inner g.above es xs st
+  leads_on o i p n above (Term t ∷ ss) g es xs st = leads_passes o i p n t ss above g es xs (meets t (token_at ts i)) refl st
+  leads_on o i p n above (Act x ∷ ss) g es xs st =
       record {
         stack = extends i i n (Act x) ss g.inner xs above g.above (action x none) (refl, refl) st.stack;
         known = known_first i ss;
         given_are = given_next xs (Acts x) es (Due x) refl (st.given_are ∙ ap (λ z. flat_map given xs ++ z) st.known);
+        childless_is = not_empty g.inner.children (action x none) refl;
       }
-  leads_on i p n above (Non m ∷ ss) g es xs st = leads_pending i p n m ss above g es xs st
+  leads_on o i p n above (Non m ∷ ss) g es xs st = leads_pending o i p n m ss above g es xs st
 
   pub leads : (c : OpenNodes) (g : Gathered) (es : List Item) (xs : List Step) (now : Move) → move ts c ≡ now → Stands c g es xs → Leads g es xs now
-  leads c g es xs now e st = subst (Leads g es xs) e (leads_on c.place c.pending c.inner.node c.above c.inner.rest g es xs st)
+  leads c g es xs now e st = subst (Leads g es xs) e (leads_on c.childless c.place c.pending c.inner.node c.above c.inner.rest g es xs st)
 
   pub stands_run : {c d : OpenNodes} {g h : Gathered} {fs : List Item} {ys : List Step} (es : List Item) (xs : List Step) → Stands c g es xs → Run ts c g fs ys d h → Stands d h (es ++ fs) (xs ++ ys)
   stands_run {c} {g} es xs st stop = subst (λ z. Stands c g z (xs ++ [])) (sym (append-nil es)) (subst (λ z. Stands c g es z) (sym (append-nil xs)) st)
@@ -284,7 +299,7 @@ module _ (ts : List Terminal) where
   -- ---- at the end, and where a run is cut off
 
   pub stands_first : Stands at_start at_first [] []
-  stands_first = record { stack = (record { done = []; parts = refl; derives = refl }, refl); known = known_first 0 unit; given_are = refl }
+  stands_first = record { stack = (record { done = []; parts = refl; derives = refl }, refl, refl); known = known_first 0 unit; given_are = refl; childless_is = refl }
 
   ends_passes : (i : ℕ) (inner : Row) (above : List Row) (v : Verdict) → passes_by i inner above v ≡ Ends → ⊥
   ends_passes i inner above Holds e = cc
@@ -295,33 +310,33 @@ module _ (ts : List Terminal) where
   ends_opens m i upper above None e = cc
   ends_opens m i upper above (Some body) e = cc
 
-  ends_choice : (m : NonTerm) (i : ℕ) (upper : Row) (above : List Row) (ch : Choice) → by_choice m i upper above ch ≡ Ends → ⊥
-  ends_choice m i upper above Nothing e = cc
-  ends_choice m i upper above (Takes k) e = ends_opens m i upper above (body_of m k) e
-  ends_choice m i upper above (Waits k ahead) e = cc
+  ends_choice : (o : Bool) (m : NonTerm) (i : ℕ) (upper : Row) (above : List Row) (ch : Choice) → by_choice m i o upper above ch ≡ Ends → ⊥
+  ends_choice o m i upper above Nothing e = cc
+  ends_choice o m i upper above (Takes k) e = ends_opens m i upper above (body_of m k) e
+  ends_choice o m i upper above (Waits k ahead) e = cc
 
-  ends_pending : (m : NonTerm) (i : ℕ) (upper : Row) (above : List Row) (p : Pending) → by_pending ts m i upper above p ≡ Ends → ⊥
-  ends_pending m i upper above (pending.From k) e = ends_choice m i upper above (choice k (drop k (rule m)) (first i) (second i)) e
-  ends_pending m i upper above (pending.Waits k) e = cc
-  ends_pending m i upper above (pending.Takes k) e = ends_opens m i upper above (body_of m k) e
+  ends_pending : (o : Bool) (m : NonTerm) (i : ℕ) (upper : Row) (above : List Row) (p : Pending) → by_pending ts m i o upper above p ≡ Ends → ⊥
+  ends_pending o m i upper above (pending.From k) e = ends_choice o m i upper above (choice k (drop k (rule m)) (first i) (second i)) e
+  ends_pending o m i upper above (pending.Waits k) e = cc
+  ends_pending o m i upper above (pending.Takes k) e = ends_opens m i upper above (body_of m k) e
 
-  ends_on : (i : ℕ) (p : Pending) (n : NonTerm) (above : List Row) (ss : List Symbol) → move_on ts i p n above ss ≡ Ends → (ss ≡ []) × (above ≡ [])
-  ends_on i p n [] [] e = (refl, refl)
-  ends_on i p n (upper ∷ above) [] e = cc
-  ends_on i p n above (Term t ∷ ss) e = absurd (ends_passes i (row n ss) above (meets t (token_at ts i)) e)
-  ends_on i p n above (Act x ∷ ss) e = cc
-  ends_on i p n above (Non m ∷ ss) e = absurd (ends_pending m i (row n ss) above p e)
+  ends_on : (o : Bool) (i : ℕ) (p : Pending) (n : NonTerm) (above : List Row) (ss : List Symbol) → move_on ts i p o n above ss ≡ Ends → (ss ≡ []) × (above ≡ [])
+  ends_on o i p n [] [] e = (refl, refl)
+  ends_on o i p n (upper ∷ above) [] e = cc
+  ends_on o i p n above (Term t ∷ ss) e = absurd (ends_passes i (row n ss) above (meets t (token_at ts i)) e)
+  ends_on o i p n above (Act x ∷ ss) e = cc
+  ends_on o i p n above (Non m ∷ ss) e = absurd (ends_pending o m i (row n ss) above p e)
 
   pub record Whole (i : ℕ) (by : List Item) (tree : Trees) (es : List Item) (xs : List Step) : Type 0 where
     pub derives : Derives ts tree 0 unit i
     pub steps_are : xs ≡ steps tree
     pub given_are : es ≡ flat_map given xs
 
-  whole_at : (i : ℕ) (p : Pending) (n : NonTerm) (above : List Row) (ss : List Symbol) (by : List Item) (b : Branch) (vs : List Branch) (es : List Item) (xs : List Step) → ss ≡ [] → above ≡ [] → Stands (at i p (row n ss) above) (record { asks = by; inner = b; above = vs }) es xs → Whole i by b.children es xs
-  whole_at i p n above (s ∷ ss) by b vs es xs e f st = cc
-  whole_at i p n (upper ∷ above) [] by b vs es xs e f st = cc
-  whole_at i p n [] [] by b (v ∷ vs) es xs e f st = absurd st.stack
-  whole_at i p n [] [] by b [] es xs e f st =
+  whole_at : (o : Bool) (i : ℕ) (p : Pending) (n : NonTerm) (above : List Row) (ss : List Symbol) (by : List Item) (b : Branch) (vs : List Branch) (es : List Item) (xs : List Step) → ss ≡ [] → above ≡ [] → Stands (at i p o (row n ss) above) (record { asks = by; inner = b; above = vs }) es xs → Whole i by b.children es xs
+  whole_at o i p n above (s ∷ ss) by b vs es xs e f st = cc
+  whole_at o i p n (upper ∷ above) [] by b vs es xs e f st = cc
+  whole_at o i p n [] [] by b (v ∷ vs) es xs e f st = absurd st.stack
+  whole_at o i p n [] [] by b [] es xs e f st =
       let inside : InRow 0 unit [] b.children i = st.stack.0 in
       let P : List Symbol → Type 0 = λ z. Derives ts b.children 0 z i in
       record {
@@ -378,8 +393,8 @@ module _ (ts : List Terminal) where
 pub runs_derive : StepsAreEvents → RunsDerive
 runs_derive law ts es xs c g run end =
     let st : Stands ts c g es xs = stands_run ts [] [] (stands_first ts) run in
-    let e : (c.inner.rest ≡ []) × (c.above ≡ []) = ends_on ts c.place c.pending c.inner.node c.above c.inner.rest end in
-    let w : Whole ts c.place g.asks g.inner.children es xs = whole_at ts c.place c.pending c.inner.node c.above c.inner.rest g.asks g.inner g.above es xs e.0 e.1 st in
+    let e : (c.inner.rest ≡ []) × (c.above ≡ []) = ends_on ts c.childless c.place c.pending c.inner.node c.above c.inner.rest end in
+    let w : Whole ts c.place g.asks g.inner.children es xs = whole_at ts c.childless c.place c.pending c.inner.node c.above c.inner.rest g.asks g.inner g.above es xs e.0 e.1 st in
     (w.derives, w.given_are ∙ ap (λ z. flat_map given z) w.steps_are ∙ law g.inner.children, w.steps_are)
 
 pub runs_begin : RunsBegin
@@ -387,3 +402,14 @@ runs_begin ts es xs c g run =
     let st : Stands ts c g es xs = stands_run ts [] [] (stands_first ts) run in
     let all : Cut ts (xs ++ []) = cut ts c.place c.inner g.inner xs c.above g.above none st.stack tt in
     (all.trees, all.more, all.begins, all.steps_are ∙ ap (λ z. z ++ all.more) (append-nil xs), all.close)
+
+node_is : (ts : List Terminal) (i : ℕ) (inner : Row) (b : Branch) (xs : List Step) (above : List Row) (vs : List Branch) → Stack ts i inner b xs above vs → inner.node ≡ b.node
+node_is ts i inner b xs [] [] st = st.2
+node_is ts i inner b xs [] (v ∷ vs) st = absurd st
+node_is ts i inner b xs (upper ∷ above) [] st = absurd st
+node_is ts i inner b xs (upper ∷ above) (v ∷ vs) st = st.7
+
+pub children_are_told : ChildrenAreTold
+children_are_told ts es xs c g run =
+    let st : Stands ts c g es xs = stands_run ts [] [] (stands_first ts) run in
+    (node_is ts c.place c.inner g.inner xs c.above g.above st.stack, st.childless_is)

@@ -7,6 +7,7 @@ use Rattle.cr_ll.specs.Derivation.{Item, Passed, Due, Asked, Trees, Derives, eve
 use Rattle.cr_ll.specs.Machine.{Config}
 use Rattle.cr_ll.specs.Machine as machine
 use Rattle.cr_ll.specs.Laws.{unit}
+use Rattle.cr_binding.specs.Binding.{is_empty}
 use Rattle.cr_binding.specs.WellFormed.{Begins}
 use Rattle.cr_binding.specs.Steps.{Step, Opens, Passes, Acts, Closes, steps}
 use Rattle.cr_ll.specs.declared.state.Event.{Event}
@@ -92,6 +93,12 @@ RunsBegin =
     (ts : List Terminal) (es : List Item) (xs : List Step) (c : OpenNodes) (g : Gathered)
     → Run ts at_start at_first es xs c g
     → (trees : Trees) × (more : List Step) × Begins ts trees 0 unit × (steps trees ≡ xs ++ more) × AllClose more
+
+-- Nothing stands in the innermost open node yet, where the nodes say so.
+abbrev pub ChildrenAreTold : Type 0
+ChildrenAreTold =
+    (ts : List Terminal) (es : List Item) (xs : List Step) (c : OpenNodes) (g : Gathered)
+    → Run ts at_start at_first es xs c g → (c.inner.node ≡ g.inner.node) × (c.childless ≡ is_empty g.inner.children)
 
 -- The next event that the machine of the grammar gives is waited for, after the same events.
 abbrev pub MachineFits : Type 0

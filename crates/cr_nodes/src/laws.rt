@@ -1,6 +1,6 @@
 //! What runs of the moves are: laws of the definitions. Each function does nothing; its contract is
 //! the law.
-ghost use Rattle.cr_nodes.specs.Laws.{CallsAreRuns, RunsJoin, StepsAreATrees, AllStepsAreMade, RunsDerive, RunsBegin, MachineFits, AwaitedIsFit};
+ghost use Rattle.cr_nodes.specs.Laws.{CallsAreRuns, RunsJoin, StepsAreATrees, AllStepsAreMade, RunsDerive, RunsBegin, ChildrenAreTold, MachineFits, AwaitedIsFit};
 
 use cr_binding::steps_bind;
 
@@ -22,6 +22,7 @@ pub fn calls_are_a_run()
 pub fn runs_are_of_trees()
     ensures derive { RunsDerive }
     ensures begin { RunsBegin }
+    ensures children { ChildrenAreTold }
 {
     steps_bind();
 }

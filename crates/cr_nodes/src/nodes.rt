@@ -1,5 +1,5 @@
 //! The open nodes, which are led on by the events of the grammar's machine.
-ghost use Rattle.std.specs.Prelude.{◌≡◌, ◌+◌, ◌-◌, ◌≤◌, ◌<◌, ◌^◌, ◌∷◌, ◌↔◌, IsTrue, Some, drop, length};
+ghost use Rattle.std.specs.Prelude.{◌≡◌, ◌+◌, ◌-◌, ◌≤◌, ◌<◌, ◌^◌, ◌∷◌, ◌↔◌, IsTrue, false, Some, drop, length};
 ghost use Rattle.cr_grammar.specs.Grammar.{rule};
 ghost use Rattle.cr_ll.specs.Derivation.{Due};
 ghost use Rattle.cr_ll.specs.Guards.{terminals, token_at, meets, choice};
@@ -41,6 +41,7 @@ pub enum NodesFault {
 pub struct Nodes {
     place: u32,
     pending: Pending,
+    childless: bool,
     inner: OpenRow,
     above: Rows,
 }
@@ -52,7 +53,7 @@ impl Model for Nodes {
 
     ghost Value = { OpenNodes };
 
-    ghost view = { λ m. at m.place m.pending (seen_row m.inner) m.above };
+    ghost view = { λ m. at m.place m.pending m.childless (seen_row m.inner) m.above };
 
     ghost invariant = { λ m. IsShort m.pending };
 }
@@ -103,6 +104,7 @@ impl Nodes {
         Nodes {
             place: 0,
             pending: Pending::From(0),
+            childless: true,
             inner: OpenRow {
                 node: NonTerm::Unit,
                 rest: UNIT,
@@ -116,6 +118,13 @@ impl Nodes {
         ensures { result ≡ self.now.inner.node }
     {
         self.inner.node
+    }
+
+    /// Whether nothing stands in the innermost open node yet: no token, no action, and no node.
+    pub fn is_childless(&self) -> bool
+        ensures { result ≡ self.now.childless }
+    {
+        self.childless
     }
 
     /// Answers the last event, an ask: whether the identifier is a typedef name there (C11 6.7.8).
@@ -139,6 +148,7 @@ impl Nodes {
             Some(upper) => {
                 self.inner = upper;
                 self.pending = Pending::From(0);
+                self.childless = false;
                 Ok(Before::Closes)
             }
             None if is_done(event) => Ok(Before::Nothing),
@@ -167,6 +177,7 @@ impl Nodes {
         }
         self.place = i + 1;
         self.pending = Pending::From(0);
+        self.childless = false;
         self.inner.rest = rest;
         Ok(Before::Nothing)
     }
@@ -178,12 +189,13 @@ impl Nodes {
         rest: &'static [Symbol],
         event: Event,
     ) -> Result<Before, NodesFault>
-        ensures { Advances (ActsTo action (at self.old.place (Pending.From 0) (row self.old.inner.node rest.now) self.old.above)) self.old event result self.new }
+        ensures { Advances (ActsTo action (at self.old.place (Pending.From 0) false (row self.old.inner.node rest.now) self.old.above)) self.old event result self.new }
     {
         if !is_act(event, action) {
             return Err(NodesFault::Unfit);
         }
         self.pending = Pending::From(0);
+        self.childless = false;
         self.inner.rest = rest;
         Ok(Before::Nothing)
     }
@@ -191,7 +203,7 @@ impl Nodes {
     // Takes an ask, where it is the next event.
     fn ask(&mut self, k: usize, i: usize, event: Event) -> Result<Before, NodesFault>
         requires { k < 2 ^ 64 - 1 }
-        ensures { Advances (AsksAt i (at self.old.place (Pending.Waits k) self.old.inner self.old.above)) self.old event result self.new }
+        ensures { Advances (AsksAt i (at self.old.place (Pending.Waits k) self.old.childless self.old.inner self.old.above)) self.old event result self.new }
     {
         if !is_ask(event, i) {
             return Err(NodesFault::Unfit);
@@ -221,6 +233,7 @@ impl Nodes {
                     return Err(NodesFault::OutOfMemory);
                 }
                 self.pending = Pending::From(0);
+                self.childless = true;
                 self.inner = OpenRow { node, rest: body };
                 Ok(Before::Opens(node))
             }
@@ -238,7 +251,7 @@ impl Nodes {
         names: &NameTable,
     ) -> Result<Before, NodesFault>
         requires { self.old.inner.rest ≡ Symbol.Non node ∷ rest.now }
-        ensures { Advances (by_choice node self.old.place (row self.old.inner.node rest.now) self.old.above (choice k (drop k (rule node)) (token_at (terminals names.now tokens.now) self.old.place) (token_at (terminals names.now tokens.now) (self.old.place + 1)))) self.old event result self.new }
+        ensures { Advances (by_choice node self.old.place self.old.childless (row self.old.inner.node rest.now) self.old.above (choice k (drop k (rule node)) (token_at (terminals names.now tokens.now) self.old.place) (token_at (terminals names.now tokens.now) (self.old.place + 1)))) self.old event result self.new }
     {
         let i = self.place as usize;
         match choose(
@@ -263,7 +276,7 @@ impl Nodes {
         names: &NameTable,
     ) -> Result<Before, NodesFault>
         requires { self.old.inner.rest ≡ Symbol.Non node ∷ rest.now }
-        ensures { Advances (by_pending (terminals names.now tokens.now) node self.old.place (row self.old.inner.node rest.now) self.old.above self.old.pending) self.old event result self.new }
+        ensures { Advances (by_pending (terminals names.now tokens.now) node self.old.place self.old.childless (row self.old.inner.node rest.now) self.old.above self.old.pending) self.old event result self.new }
     {
         match self.pending {
             Pending::From(k) => self.open_from(node, k, rest, event, tokens, names),
