@@ -173,7 +173,7 @@ module _ (ts : List Terminal) where
   goes_on {c} {g} es xs x more e st (asks {d = b} {i} {es = fs} answer now rest) run =
       let f : Follows (machine_of c) (AsksAt i b) = follows_by c (AsksAt i b) st now in
       let r : (a : Bool) × (Asked i answer ≡ Asked i a) × machine.Run ts (machine.replied (machine_of c) f.0 a) (fs ++ x ∷ more) e =
-            run_asks (Asked i answer) (fs ++ x ∷ more) i f.0 refl f.1 run in
+      run_asks (Asked i answer) (fs ++ x ∷ more) i f.0 refl f.1 run in
       let p : r.0 ≡ answer = cc in
       let P : Bool → Type 0 = λ z. machine.Run ts (machine.replied (machine_of c) f.0 z) (fs ++ x ∷ more) e in
       let Q : Config → Type 0 = λ z. machine.Run ts z (fs ++ x ∷ more) e in

@@ -84,28 +84,28 @@ pub record Rest (ts : List Terminal) (d e : OpenNodes) (h k : Gathered) (more : 
   pub steps_are : all ≡ xs ++ later
   pub run : Run ts d h more later e k
 
+-- a step in front of both
+behind : {ts : List Terminal} {d e : OpenNodes} {h k : Gathered} {more : List Item} {xs later : List Step} (x : Step) (all : List Step) → all ≡ x ∷ later → Rest ts d e h k more xs later → Rest ts d e h k more (x ∷ xs) all
+behind x all eq r = record { later = r.later; steps_are = eq ∙ ap (λ z. x ∷ z) r.steps_are; run = r.run }
+
 pub rest : {ts : List Terminal} {c d e : OpenNodes} {g h k : Gathered} {es : List Item} {xs : List Step} (more whole_events : List Item) (all : List Step) → move ts e ≡ Ends → Run ts c g whole_events all e k → whole_events ≡ es ++ more → Run ts c g es xs d h → Rest ts d e h k more xs all
 rest {ts} {c} {e} {g} {k} more zs all end run eq stop =
     let P : List Item → Type 0 = λ z. Run ts c g z all e k in
     record { later = all; steps_are = refl; run = subst P eq run }
 rest {ts} {e} {g} {k} more zs all end run eq (opens {d = b} {m} now first) =
     let next : (later : List Step) × (all ≡ Opens m g.asks ∷ later) × Run ts b (opening m g) zs later e k = next_opens m b now end run in
-    let r : Rest ts _ e _ k more _ next.0 = rest more zs next.0 end next.2 eq first in
-    record { later = r.later; steps_are = next.1 ∙ ap (λ z. Opens m g.asks ∷ z) r.steps_are; run = r.run }
+    behind (Opens m g.asks) all next.1 (rest more zs next.0 end next.2 eq first)
 rest {ts} {e} {g} {k} more zs all end run eq (closes {d = b} now first) =
     let next : (later : List Step) × (all ≡ Closes g.inner.children ∷ later) × Run ts b (closing g) zs later e k = next_closes b now end run in
-    let r : Rest ts _ e _ k more _ next.0 = rest more zs next.0 end next.2 eq first in
-    record { later = r.later; steps_are = next.1 ∙ ap (λ z. Closes g.inner.children ∷ z) r.steps_are; run = r.run }
+    behind (Closes g.inner.children) all next.1 (rest more zs next.0 end next.2 eq first)
 rest {ts} {e} {g} {k} more zs all end run eq (passes {d = b} {i} {es = front} now first) =
     let next : (l : List Item) × (later : List Step) × (zs ≡ Passed i ∷ l) × (all ≡ Passes i ∷ later) × Run ts b (passing i g) l later e k = next_passes i b now end run in
     let q : next.0 ≡ front ++ more = cc in
-    let r : Rest ts _ e _ k more _ next.1 = rest more next.0 next.1 end next.4 q first in
-    record { later = r.later; steps_are = next.3 ∙ ap (λ z. Passes i ∷ z) r.steps_are; run = r.run }
+    behind (Passes i) all next.3 (rest more next.0 next.1 end next.4 q first)
 rest {ts} {e} {g} {k} more zs all end run eq (acts {d = b} {x} {es = front} now first) =
     let next : (l : List Item) × (later : List Step) × (zs ≡ Due x ∷ l) × (all ≡ Acts x ∷ later) × Run ts b (acting x g) l later e k = next_acts x b now end run in
     let q : next.0 ≡ front ++ more = cc in
-    let r : Rest ts _ e _ k more _ next.1 = rest more next.0 next.1 end next.4 q first in
-    record { later = r.later; steps_are = next.3 ∙ ap (λ z. Acts x ∷ z) r.steps_are; run = r.run }
+    behind (Acts x) all next.3 (rest more next.0 next.1 end next.4 q first)
 rest {ts} {e} {g} {k} more zs all end run eq (asks {d = b} {i} {es = front} answer now first) =
     let next : (a : Bool) × (l : List Item) × (zs ≡ Asked i a ∷ l) × Run ts (replied a b) (asking i a g) l all e k = next_asks i b now end run in
     let q : next.1 ≡ front ++ more = cc in

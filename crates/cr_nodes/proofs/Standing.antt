@@ -122,16 +122,25 @@ module _ (ts : List Terminal) where
 
   -- a child more
   extends : (i j : ℕ) (m : NonTerm) (s : Symbol) (ss : List Symbol) (b : Branch) (xs : List Step) (above : List Row) (vs : List Branch) (one : Trees) → Derives ts one i (s ∷ []) j → Stack i (row m (s ∷ ss)) b xs above vs → Stack j (row m ss) (with_child one b) (xs ++ steps one) above vs
-  extends i j m s ss b xs [] [] one d st =
-      (longer 0 unit i j s ss b one d st.0,
-      ap (λ z. z ++ steps one) st.1 ∙ sym (steps_followed b.children one), st.2)
+  extends i j m s ss b xs [] [] one d st = (
+    longer 0 unit i j s ss b one d st.0,
+    ap (λ z. z ++ steps one) st.1 ∙ sym (steps_followed b.children one),
+    st.2,
+  )
   extends i j m s ss b xs [] (v ∷ vs) one d st = absurd st
   extends i j m s ss b xs (upper ∷ above) [] one d st = absurd st
-  extends i j m s ss b xs (upper ∷ above) (v ∷ vs) one d st =
-      (st.0, st.1, st.2, st.3, longer st.0 st.1 i j s ss b one d st.4, st.5,
-      ap (λ z. z ++ steps one) st.6
-      ∙ append_assoc st.2 (Opens b.node b.asks ∷ steps b.children) (steps one)
-      ∙ ap (λ z. st.2 ++ Opens b.node b.asks ∷ z) (sym (steps_followed b.children one)), st.7)
+  extends i j m s ss b xs (upper ∷ above) (v ∷ vs) one d st = (
+    st.0,
+    st.1,
+    st.2,
+    st.3,
+    longer st.0 st.1 i j s ss b one d st.4,
+    st.5,
+    ap (λ z. z ++ steps one) st.6
+        ∙ append_assoc st.2 (Opens b.node b.asks ∷ steps b.children) (steps one)
+        ∙ ap (λ z. st.2 ++ Opens b.node b.asks ∷ z) (sym (steps_followed b.children one)),
+    st.7,
+  )
 
   -- ---- what is known of the next node, by the asks since the last step
 
@@ -252,10 +261,10 @@ module _ (ts : List Terminal) where
       let kids : P body = subst P (sym (inside.parts ∙ append-nil inside.done)) inside.derives in
       let one : Trees = node b.node b.asks b.children none in
       let all : Stack i (row upper.node upper.rest) (with_child one v) (before ++ steps one) above vs =
-            extends k i upper.node (Non b.node) upper.rest v before above vs one (refl, body, i, st.stack.3, kids, refl) st.stack.5 in
+      extends k i upper.node (Non b.node) upper.rest v before above vs one (refl, body, i, st.stack.3, kids, refl) st.stack.5 in
       let Q : List Step → Type 0 = λ z. Stack i (row upper.node upper.rest) (with_child one v) z above vs in
       let eq : xs ++ Closes b.children ∷ [] ≡ before ++ steps one =
-            ap (λ z. z ++ Closes b.children ∷ []) st.stack.6 ∙ append_assoc before (Opens b.node b.asks ∷ steps b.children) (Closes b.children ∷ []) in
+      ap (λ z. z ++ Closes b.children ∷ []) st.stack.6 ∙ append_assoc before (Opens b.node b.asks ∷ steps b.children) (Closes b.children ∷ []) in
       record {
         stack = subst Q (sym eq) all;
         known = known_first i upper.rest;
@@ -372,8 +381,8 @@ module _ (ts : List Terminal) where
       let kids : Trees = followed_by b.children tail in
       let one : Trees = node b.node b.asks kids none in
       let all : Cut (st.2 ++ steps one) =
-            cut st.0 (row upper.node (Non b.node ∷ upper.rest)) v st.2 above vs one st.5
-            (refl, st.1, st.3, inr (begins_in st.0 st.1 inner.rest b.children tail i st.4 begin, refl)) in
+      cut st.0 (row upper.node (Non b.node ∷ upper.rest)) v st.2 above vs one st.5
+      (refl, st.1, st.3, inr (begins_in st.0 st.1 inner.rest b.children tail i st.4 begin, refl)) in
       let opened : List Step = Opens b.node b.asks ∷ steps b.children in
       record {
         trees = all.trees;

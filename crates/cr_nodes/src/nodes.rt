@@ -1,7 +1,7 @@
 //! The open nodes, which are led on by the events of the grammar's machine.
 ghost use Rattle.std.specs.Prelude.{◌≡◌, ◌+◌, ◌-◌, ◌≤◌, ◌<◌, ◌^◌, ◌∷◌, ◌↔◌, IsTrue, false, Some, drop, length};
 ghost use Rattle.cr_grammar.specs.Grammar.{rule};
-ghost use Rattle.cr_ll.specs.Derivation.{Due};
+ghost use Rattle.cr_ll.specs.declared.state.Event.{Event};
 ghost use Rattle.cr_ll.specs.Guards.{terminals, token_at, meets, choice};
 ghost use Rattle.cr_nodes.specs.Moves.{at, at_start, row, body_of, PassesTo, ActsTo, AsksAt, opens_by, by_choice, by_pending, passes_by, closes_by, move, replied};
 ghost use Rattle.cr_nodes.specs.Advancing.{Advances};
@@ -166,7 +166,10 @@ impl Nodes {
         names: &NameTable,
     ) -> Result<Before, NodesFault>
         requires short { length tokens.now ≤ 2 ^ 25 }
-        ensures { Advances (passes_by self.old.place (row self.old.inner.node rest.now) self.old.above (meets term (token_at (terminals names.now tokens.now) self.old.place))) self.old event result self.new }
+        ensures { let next = token_at (terminals names.now tokens.now) self.old.place in
+            let inner = row self.old.inner.node rest.now in
+            Advances (passes_by self.old.place inner self.old.above (meets term next))
+            self.old event result self.new }
     {
         let i = self.place;
         if !is_token(event, i) {
@@ -189,7 +192,9 @@ impl Nodes {
         rest: &'static [Symbol],
         event: Event,
     ) -> Result<Before, NodesFault>
-        ensures { Advances (ActsTo action (at self.old.place (Pending.From 0) false (row self.old.inner.node rest.now) self.old.above)) self.old event result self.new }
+        ensures { let inner = row self.old.inner.node rest.now in
+            Advances (ActsTo action (at self.old.place (Pending.From 0) false inner self.old.above))
+            self.old event result self.new }
     {
         if !is_act(event, action) {
             return Err(NodesFault::Unfit);
@@ -203,7 +208,8 @@ impl Nodes {
     // Takes an ask, where it is the next event.
     fn ask(&mut self, k: usize, i: usize, event: Event) -> Result<Before, NodesFault>
         requires { k < 2 ^ 64 - 1 }
-        ensures { Advances (AsksAt i (at self.old.place (Pending.Waits k) self.old.childless self.old.inner self.old.above)) self.old event result self.new }
+        ensures { Advances (AsksAt i (record self.old { pending = Pending.Waits k }))
+            self.old event result self.new }
     {
         if !is_ask(event, i) {
             return Err(NodesFault::Unfit);
@@ -218,9 +224,11 @@ impl Nodes {
         node: NonTerm,
         k: usize,
         rest: &'static [Symbol],
-        event: Event,
     ) -> Result<Before, NodesFault>
-        ensures { Advances (opens_by node self.old.place (row self.old.inner.node rest.now) self.old.above (body_of node k)) self.old event result self.new }
+        ensures { let upper = row self.old.inner.node rest.now in
+            (x : Event)
+            → Advances (opens_by node self.old.place upper self.old.above (body_of node k))
+            self.old x result self.new }
     {
         let upper = OpenRow {
             node: self.inner.node,
@@ -251,7 +259,13 @@ impl Nodes {
         names: &NameTable,
     ) -> Result<Before, NodesFault>
         requires { self.old.inner.rest ≡ Symbol.Non node ∷ rest.now }
-        ensures { Advances (by_choice node self.old.place self.old.childless (row self.old.inner.node rest.now) self.old.above (choice k (drop k (rule node)) (token_at (terminals names.now tokens.now) self.old.place) (token_at (terminals names.now tokens.now) (self.old.place + 1)))) self.old event result self.new }
+        ensures { let next = token_at (terminals names.now tokens.now) self.old.place in
+            let second = token_at (terminals names.now tokens.now) (self.old.place + 1) in
+            let upper = row self.old.inner.node rest.now in
+            Advances
+            (by_choice node self.old.place self.old.childless upper self.old.above
+            (choice k (drop k (rule node)) next second))
+            self.old event result self.new }
     {
         let i = self.place as usize;
         match choose(
@@ -261,7 +275,7 @@ impl Nodes {
             lexeme_at(names, tokens, i + 1),
         ) {
             Choice::Nothing => Err(NodesFault::Unfit),
-            Choice::Takes(k) => self.open(node, k, rest, event),
+            Choice::Takes(k) => self.open(node, k, rest),
             Choice::Waits(k, ahead) => self.ask(k, ask_at(i, ahead), event),
         }
     }
@@ -276,12 +290,16 @@ impl Nodes {
         names: &NameTable,
     ) -> Result<Before, NodesFault>
         requires { self.old.inner.rest ≡ Symbol.Non node ∷ rest.now }
-        ensures { Advances (by_pending (terminals names.now tokens.now) node self.old.place self.old.childless (row self.old.inner.node rest.now) self.old.above self.old.pending) self.old event result self.new }
+        ensures { let upper = row self.old.inner.node rest.now in
+            Advances
+            (by_pending (terminals names.now tokens.now) node self.old.place
+            self.old.childless upper self.old.above self.old.pending)
+            self.old event result self.new }
     {
         match self.pending {
             Pending::From(k) => self.open_from(node, k, rest, event, tokens, names),
             Pending::Waits(_) => Err(NodesFault::Unfit),
-            Pending::Takes(k) => self.open(node, k, rest, event),
+            Pending::Takes(k) => self.open(node, k, rest),
         }
     }
 
