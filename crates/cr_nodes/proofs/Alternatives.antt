@@ -1,5 +1,5 @@
 -- How the alternatives of a nonterminal are found by their numbers.
-use Rattle.std.proofs.Common.{◌≡◌, ℕ, zero, suc, ◌+◌, Option, Some, None, List, [], ◌∷◌, drop, refl, sym, ◌∙◌, ap}
+use Rattle.std.proofs.Common.{◌≡◌, ℕ, zero, suc, Option, Some, List, [], ◌∷◌, drop, ap}
 use Rattle.std.specs.Prelude.{slice_get, option_map}
 use Rattle.cr_grammar.specs.declared.symbols.Symbol.{Symbol}
 use Rattle.cr_grammar.specs.Grammar.{Row as Alternative}

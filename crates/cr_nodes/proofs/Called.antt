@@ -1,15 +1,14 @@
 -- From calls to runs.
-use Rattle.std.proofs.Common.{◌≡◌, ◌≢◌, ℕ, Bool, Option, Some, None, Ok, Err, List, [], ◌∷◌, ◌++◌, refl, sym, ◌∙◌, ap, subst}
+use Rattle.std.proofs.Common.{◌≡◌, Some, Err, List, ◌++◌, refl, sym, ◌∙◌, ap, subst}
 use Rattle.cr_ll.specs.declared.state.Event.{Event}
 use Rattle.cr_ll.specs.declared.state.Event.TheVariants as event
 use Rattle.cr_ll.specs.Guards.{Terminal}
-use Rattle.cr_ll.specs.Derivation.{Item, Passed, Due, Asked}
+use Rattle.cr_ll.specs.Derivation.{Item}
 use Rattle.cr_binding.specs.Steps.{Step}
-use Rattle.cr_nodes.specs.declared.nodes.Before.{Before}
 use Rattle.cr_nodes.specs.declared.nodes.Before.TheVariants as before
 use Rattle.cr_nodes.specs.declared.nodes.NodesFault.TheVariants.{Unfit}
-use Rattle.cr_nodes.specs.Moves.{OpenNodes, Move, OpensTo, ClosesTo, PassesTo, ActsTo, AsksAt, Ends, Faults, move, replied}
-use Rattle.cr_nodes.specs.Gathering.{Gathered, asking}
+use Rattle.cr_nodes.specs.Moves.{OpenNodes, Move, OpensTo, ClosesTo, PassesTo, ActsTo, AsksAt, Ends, Faults, move}
+use Rattle.cr_nodes.specs.Gathering.{Gathered}
 use Rattle.cr_nodes.specs.Advancing.{Advances, awaited, taken}
 use Rattle.cr_nodes.specs.Laws.{Run, stop, opens, closes, passes, acts, asks, Awaits, Makes, CallsAreRuns, RunsJoin, event_of, AwaitedIsFit}
 

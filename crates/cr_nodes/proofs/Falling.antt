@@ -1,5 +1,5 @@
 -- Before the next event only so many nodes are opened and closed.
-use Rattle.std.proofs.Common.{◌≡◌, ℕ, zero, suc, ◌+◌, ◌*◌, ◌<◌, Bool, true, Option, Some, None, Result, Ok, Err, List, [], ◌∷◌, ◌++◌, length, drop, refl, sym, ◌∙◌, ap, subst, arith}
+use Rattle.std.proofs.Common.{◌≡◌, ℕ, zero, suc, ◌+◌, ◌*◌, ◌<◌, Bool, true, Option, Some, None, Result, Ok, Err, List, [], ◌∷◌, ◌++◌, length, drop, refl, subst, arith}
 use Rattle.std.specs.Prelude.{slice_get, option_map}
 use Rattle.cr_grammar.specs.declared.symbols.NonTerm.{NonTerm}
 use Rattle.cr_grammar.specs.declared.symbols.Symbol.{Symbol}
@@ -17,7 +17,7 @@ use Rattle.cr_nodes.specs.declared.pending.Pending.TheVariants as pending
 use Rattle.cr_nodes.specs.declared.nodes.Before.{Before}
 use Rattle.cr_nodes.specs.declared.nodes.Before.TheVariants as before
 use Rattle.cr_nodes.specs.declared.nodes.NodesFault.{NodesFault}
-use Rattle.cr_nodes.specs.Moves.{Row, row, OpenNodes, at, Move, OpensTo, ClosesTo, PassesTo, ActsTo, AsksAt, Ends, Faults, body_of, opens_by, by_choice, by_pending, passes_by, closes_by, move_on, move}
+use Rattle.cr_nodes.specs.Moves.{Row, row, OpenNodes, Move, OpensTo, ClosesTo, body_of, opens_by, by_choice, by_pending, passes_by, closes_by, move_on, move}
 use Rattle.cr_nodes.specs.Advancing.{Advances}
 use Rattle.cr_nodes.specs.Falling.{left_above, at_most, Falls}
 

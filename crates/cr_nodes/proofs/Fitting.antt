@@ -1,5 +1,5 @@
 -- The moves of the open nodes are those of the grammar's machine, with the nodes that it doesn't tell.
-use Rattle.std.proofs.Common.{◌≡◌, ℕ, ◌+◌, length, Bool, true, false, Option, Some, None, List, [], ◌∷◌, ◌++◌, drop, refl, sym, ◌∙◌, ap, subst, append_assoc}
+use Rattle.std.proofs.Common.{◌≡◌, ℕ, ◌+◌, length, Bool, true, false, Some, List, [], ◌∷◌, ◌++◌, drop, refl, sym, ◌∙◌, ap, subst}
 use Rattle.cr_grammar.specs.declared.symbols.NonTerm.{NonTerm}
 use Rattle.cr_grammar.specs.declared.symbols.Symbol.{Symbol}
 use Rattle.cr_grammar.specs.declared.symbols.Term.{Term as TermWord}
@@ -9,16 +9,15 @@ use Rattle.cr_ll.specs.declared.guards.Verdict.{Verdict}
 use Rattle.cr_ll.specs.declared.guards.Verdict.TheVariants.{Holds, Fails, Asks}
 use Rattle.cr_ll.specs.declared.guards.Choice.{Choice}
 use Rattle.cr_ll.specs.declared.guards.Choice.TheVariants.{Nothing, Takes, Waits}
-use Rattle.cr_ll.specs.Guards.{Terminal, ask_at, token_at, meets, choice, IsWithin}
+use Rattle.cr_ll.specs.Guards.{Terminal, token_at, meets, choice, IsWithin}
 use Rattle.cr_ll.specs.Machine.{Config, body_at}
 use Rattle.cr_ll.specs.Machine as machine
 use Rattle.cr_ll.specs.Derivation.{Item, Passed, Due, Asked}
-use Rattle.cr_ll.specs.Laws.{unit}
 use Rattle.cr_binding.specs.Steps.{Step, Opens, Passes, Acts, Closes}
 use Rattle.cr_nodes.specs.declared.pending.Pending.{Pending}
 use Rattle.cr_nodes.specs.declared.pending.Pending.TheVariants as pending
-use Rattle.cr_nodes.specs.Moves.{Row, row, OpenNodes, at, at_start, Move, OpensTo, ClosesTo, PassesTo, ActsTo, AsksAt, Ends, Faults, body_of, opens_by, by_choice, by_pending, passes_by, closes_by, move_on, move, answered, replied}
-use Rattle.cr_nodes.specs.Gathering.{Gathered, at_first}
+use Rattle.cr_nodes.specs.Moves.{Row, row, OpenNodes, at, Move, OpensTo, ClosesTo, PassesTo, ActsTo, AsksAt, Ends, Faults, body_of, opens_by, by_choice, by_pending, passes_by, closes_by, move_on, move, replied}
+use Rattle.cr_nodes.specs.Gathering.{Gathered}
 use Rattle.cr_nodes.specs.Falling.{left_above}
 use Rattle.cr_nodes.specs.Laws.{Run, stop, opens, closes, passes, acts, asks, Awaits, MachineFits}
 use Rattle.cr_nodes.proofs.Standing.{body_there, within_rule, Known, KnownOf, Stands, leads, stands_first, stands_run}

@@ -3,7 +3,6 @@ use Rattle.std.proofs.Common.{◌≡◌, ℕ, zero, suc, ◌+◌, ◌<◌, lengt
 use Rattle.std.specs.Prelude.{slice_get, option_map, flat_map}
 use Rattle.std.proofs.lemmas.List.{append-nil}
 use Rattle.cr_grammar.specs.declared.symbols.NonTerm.{NonTerm}
-use Rattle.cr_grammar.specs.declared.symbols.Action.{Action}
 use Rattle.cr_grammar.specs.declared.symbols.Symbol.{Symbol}
 use Rattle.cr_grammar.specs.declared.symbols.Term.{Term as TermWord}
 use Rattle.cr_grammar.specs.declared.symbols.Symbol.TheVariants.{Term, Non, Act}
@@ -14,7 +13,7 @@ use Rattle.cr_ll.specs.declared.guards.Choice.{Choice}
 use Rattle.cr_ll.specs.declared.guards.Choice.TheVariants.{Nothing, Takes, Waits}
 use Rattle.cr_ll.specs.Guards.{Terminal, ask_at, token_at, meets, choice, IsWithin}
 use Rattle.cr_ll.specs.Machine.{body_at}
-use Rattle.cr_ll.specs.Derivation.{Item, Passed, Due, Asked, Trees, none, token, action, node, Chosen, Derives, events}
+use Rattle.cr_ll.specs.Derivation.{Item, Passed, Due, Asked, Trees, none, token, action, node, Chosen, Derives}
 use Rattle.cr_ll.specs.Laws.{unit}
 use Rattle.cr_ll.proofs.Asking.{choice_within, drop_within}
 use Rattle.cr_ll.proofs.Sound.{tells, Tells}
@@ -24,7 +23,7 @@ use Rattle.cr_binding.specs.Steps.{Step, Opens, Passes, Acts, Closes, steps, giv
 use Rattle.cr_nodes.specs.declared.pending.Pending.{Pending}
 use Rattle.cr_nodes.specs.declared.pending.Pending.TheVariants as pending
 use Rattle.cr_nodes.specs.Moves.{Row, row, OpenNodes, at, at_start, Move, OpensTo, ClosesTo, PassesTo, ActsTo, AsksAt, Ends, Faults, body_of, opens_by, by_choice, by_pending, passes_by, closes_by, move_on, move, answered, replied}
-use Rattle.cr_nodes.specs.Gathering.{Branch, Gathered, gathered, followed_by, at_first, with_child, asking, passing, acting, opening, closing}
+use Rattle.cr_nodes.specs.Gathering.{Branch, Gathered, followed_by, at_first, with_child, asking, passing, acting, opening, closing}
 use Rattle.cr_nodes.specs.Laws.{Run, stop, opens, closes, passes, acts, asks, RunsDerive, RunsBegin, ChildrenAreTold, AllClose}
 
 -- ---- rows of trees one behind another

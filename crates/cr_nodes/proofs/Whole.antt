@@ -1,5 +1,5 @@
 -- A tree is run: the moves make its steps, given its events.
-use Rattle.std.proofs.Common.{◌≡◌, ℕ, zero, suc, ◌+◌, Bool, true, false, ◌&&◌, Some, List, [], ◌∷◌, ◌++◌, drop, refl, sym, ◌∙◌, ap, subst, append_assoc, inl, inr}
+use Rattle.std.proofs.Common.{◌≡◌, ℕ, ◌+◌, Bool, true, false, ◌&&◌, Some, List, [], ◌∷◌, ◌++◌, drop, refl, sym, ◌∙◌, ap, subst, append_assoc, inl, inr}
 use Rattle.std.proofs.lemmas.List.{append-nil}
 use Rattle.cr_grammar.specs.declared.symbols.NonTerm.{NonTerm}
 use Rattle.cr_grammar.specs.declared.symbols.Symbol.{Symbol}
@@ -9,14 +9,14 @@ use Rattle.cr_ll.specs.Guards.{Terminal, ask_at, token_at, verdict, chosen, choi
 use Rattle.cr_ll.specs.declared.guards.Verdict.{Verdict}
 use Rattle.cr_ll.specs.declared.guards.Verdict.TheVariants.{Holds, Fails, Asks}
 use Rattle.cr_ll.specs.declared.guards.Choice.{Choice}
-use Rattle.cr_ll.specs.Derivation.{Item, Passed, Due, Asked, Trees, none, token, action, node, events, Chosen, ChosenBy, Derives}
+use Rattle.cr_ll.specs.Derivation.{Item, Asked, Trees, none, token, action, node, events, Chosen, ChosenBy, Derives}
 use Rattle.cr_ll.proofs.Complete.{rows_next}
 use Rattle.cr_binding.specs.Binding.{is_empty}
-use Rattle.cr_binding.specs.Steps.{Step, Opens, Passes, Acts, Closes, steps}
+use Rattle.cr_binding.specs.Steps.{Step, Opens, Closes, steps}
 use Rattle.cr_nodes.specs.declared.pending.Pending.TheVariants as pending
 use Rattle.cr_nodes.specs.Moves.{Row, row, OpenNodes, at, PassesTo, ActsTo, opens_by, by_choice, passes_by, body_of}
-use Rattle.cr_nodes.specs.Gathering.{Branch, Gathered, gathered, followed_by, opening, closing}
-use Rattle.cr_nodes.specs.Laws.{Run, stop, opens, closes, passes, acts, asks}
+use Rattle.cr_nodes.specs.Gathering.{Branch, Gathered, gathered, followed_by, opening}
+use Rattle.cr_nodes.specs.Laws.{Run, opens, closes, passes, acts, asks}
 use Rattle.cr_nodes.proofs.Alternatives.{body_first}
 
 pub followed_on : (f g h : Trees) → followed_by (followed_by f g) h ≡ followed_by f (followed_by g h)

@@ -1,16 +1,14 @@
 -- What a call does with an event, by the move that there is.
-use Rattle.std.specs.Prelude.{◌≡◌, ◌≢◌, ℕ, ◌-◌, ◌<◌, ◌^◌, Option, Some, None, Result, Ok, Err}
+use Rattle.std.specs.Prelude.{◌≡◌, ◌≢◌, ◌-◌, ◌<◌, ◌^◌, Option, Some, None, Result, Ok, Err}
 use Rattle.cr_ll.specs.declared.state.Event.{Event}
 use Rattle.cr_ll.specs.declared.state.Event.TheVariants as event
-use Rattle.cr_ll.specs.Guards.{Terminal}
-use Rattle.cr_ll.specs.Derivation.{Passed, Due, Asked}
 use Rattle.cr_nodes.specs.declared.pending.Pending.{Pending}
 use Rattle.cr_nodes.specs.declared.pending.Pending.TheVariants as pending
 use Rattle.cr_nodes.specs.declared.nodes.Before.{Before}
 use Rattle.cr_nodes.specs.declared.nodes.Before.TheVariants.{Opens, Closes, Nothing}
 use Rattle.cr_nodes.specs.declared.nodes.NodesFault.{NodesFault}
 use Rattle.cr_nodes.specs.declared.nodes.NodesFault.TheVariants.{Unfit, OutOfMemory}
-use Rattle.cr_nodes.specs.Moves.{OpenNodes, Move, OpensTo, ClosesTo, PassesTo, ActsTo, AsksAt, Ends, Faults}
+use Rattle.cr_nodes.specs.Moves.{OpenNodes, Move, OpensTo, ClosesTo, PassesTo, ActsTo, AsksAt, Ends}
 
 -- the event that a move waits for
 abbrev pub awaited : Move → Option Event

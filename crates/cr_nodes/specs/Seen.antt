@@ -1,5 +1,5 @@
 -- How the code's values are seen as those of the guarded table and of the moves.
-use Rattle.std.specs.Prelude.{ℕ, Option, Some, None, List, option_map}
+use Rattle.std.specs.Prelude.{Option, List, option_map}
 use Rattle.std.specs.Borrow.{Bor}
 use Rattle.cr_grammar.specs.declared.symbols.Symbol.{Symbol}
 use Rattle.cr_ll.specs.Guards.{Terminal}
