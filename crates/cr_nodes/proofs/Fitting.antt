@@ -1,5 +1,6 @@
 -- The moves of the open nodes are those of the grammar's machine, with the nodes that it doesn't tell.
 use Rattle.std.proofs.Common.{◌≡◌, ℕ, ◌+◌, length, Bool, true, false, Some, List, [], ◌∷◌, ◌++◌, drop, refl, sym, ◌∙◌, ap, subst}
+use Rattle.std.proofs.lemmas.List.{append-nil}
 use Rattle.cr_grammar.specs.declared.symbols.NonTerm.{NonTerm}
 use Rattle.cr_grammar.specs.declared.symbols.Symbol.{Symbol}
 use Rattle.cr_grammar.specs.declared.symbols.Term.{Term as TermWord}
@@ -12,14 +13,17 @@ use Rattle.cr_ll.specs.declared.guards.Choice.TheVariants.{Nothing, Takes, Waits
 use Rattle.cr_ll.specs.Guards.{Terminal, token_at, meets, choice, IsWithin}
 use Rattle.cr_ll.specs.Machine.{Config, body_at}
 use Rattle.cr_ll.specs.Machine as machine
-use Rattle.cr_ll.specs.Derivation.{Item, Passed, Due, Asked}
+use Rattle.cr_ll.specs.Derivation.{Item, Passed, Due, Asked, Trees, Derives, events}
+use Rattle.cr_ll.specs.Laws.{unit}
+use Rattle.cr_ll.proofs.Called.{events_are_a_trees}
 use Rattle.cr_binding.specs.Steps.{Step, Opens, Passes, Acts, Closes}
 use Rattle.cr_nodes.specs.declared.pending.Pending.{Pending}
 use Rattle.cr_nodes.specs.declared.pending.Pending.TheVariants as pending
 use Rattle.cr_nodes.specs.Moves.{Row, row, OpenNodes, at, Move, OpensTo, ClosesTo, PassesTo, ActsTo, AsksAt, Ends, Faults, body_of, opens_by, by_choice, by_pending, passes_by, closes_by, move_on, move, replied}
 use Rattle.cr_nodes.specs.Gathering.{Gathered}
 use Rattle.cr_nodes.specs.Falling.{left_above}
-use Rattle.cr_nodes.specs.Laws.{Run, stop, opens, closes, passes, acts, asks, Awaits, MachineFits}
+use Rattle.cr_nodes.specs.Laws.{Run, stop, opens, closes, passes, acts, asks, Awaits, MachineFits, EndFits}
+use Rattle.cr_nodes.proofs.Onward.{steps_are_a_trees}
 use Rattle.cr_nodes.proofs.Standing.{body_there, within_rule, Known, KnownOf, Stands, leads, stands_first, stands_run}
 
 abbrev machine_by : ℕ → List Row → NonTerm → List Symbol → Pending → Config
@@ -193,3 +197,8 @@ pub machine_fits : MachineFits
 machine_fits ts es more x xs c g d run other =
     let st : Stands ts c g es xs = stands_run ts [] [] (stands_first ts) run in
     fits_by ts (machine_of c) (move ts c) x more d (follows ts c g.asks st.known) (goes_on ts [] [] x more d (stands_first ts) run other)
+
+pub end_fits : EndFits
+end_fits ts es xs c g d run other end =
+    let t : (tree : Trees) × Derives ts tree 0 unit d.place × (es ≡ events tree) = (events_are_a_trees ts es d.place).0 (d, other, end, refl) in
+    (steps_are_a_trees ts t.0 d.place es [] xs c g t.1 (sym (append-nil es ∙ t.2)) run).1

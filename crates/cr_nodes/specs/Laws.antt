@@ -107,6 +107,13 @@ MachineFits =
     → Run ts at_start at_first es xs c g → machine.Run ts (machine.at 0 unit) (es ++ x ∷ more) d
     → Awaits (x ∷ more) (move ts c)
 
+-- And so is the end, where the machine has come to it.
+abbrev pub EndFits : Type 0
+EndFits =
+    (ts : List Terminal) (es : List Item) (xs : List Step) (c : OpenNodes) (g : Gathered) (d : Config)
+    → Run ts at_start at_first es xs c g → machine.Run ts (machine.at 0 unit) es d → machine.move ts d ≡ machine.Ends
+    → Awaits [] (move ts c)
+
 -- the event that begins what is left; the end, where nothing is
 abbrev pub event_of : List Item → Event
 event_of [] = event.Done

@@ -1,6 +1,6 @@
 //! What runs of the moves are: laws of the definitions. Each function does nothing; its contract is
 //! the law.
-ghost use Rattle.cr_nodes.specs.Laws.{CallsAreRuns, RunsJoin, StepsAreATrees, AllStepsAreMade, RunsDerive, RunsBegin, ChildrenAreTold, MachineFits, AwaitedIsFit};
+ghost use Rattle.cr_nodes.specs.Laws.{CallsAreRuns, RunsJoin, StepsAreATrees, AllStepsAreMade, RunsDerive, RunsBegin, ChildrenAreTold, MachineFits, EndFits, AwaitedIsFit};
 
 use cr_binding::steps_bind;
 
@@ -27,8 +27,10 @@ pub fn runs_are_of_trees()
     steps_bind();
 }
 
-/// The events that the machine of the grammar gives are those that the open nodes wait for, and none of them is unfit.
+/// The events that the machine of the grammar gives, and its end, are those that the open nodes wait
+/// for, and none of them is unfit.
 pub fn the_machine_fits()
     ensures waits { MachineFits }
+    ensures end { EndFits }
     ensures fit { AwaitedIsFit }
 {}

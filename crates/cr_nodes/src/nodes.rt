@@ -303,11 +303,13 @@ impl Nodes {
         }
     }
 
-    /// What comes before an event of the unit's tree, which is done by this call. So it is called until it answers
-    /// `Nothing`: the event itself is taken by that call. An ask is taken before its node is opened, and wants a reply.
+    /// Does what comes before an event of the unit's tree, and answers it; where nothing does, the
+    /// event is taken. So it is called with an event until it answers `Nothing`. An ask is taken
+    /// before its node is opened, and then wants a reply.
     ///
-    /// `Unfit` comes where neither a node can be opened or closed nor this event is the next one, as between an ask and
-    /// its reply; `OutOfMemory` where there is no memory for a node to open. All is then as it was.
+    /// `Unfit` comes where no node can be opened or closed and this event isn't the next one, as
+    /// between an ask and its reply; `OutOfMemory` where there is no memory for a node to open. All
+    /// is then as it was.
     pub fn advance(
         &mut self,
         event: Event,
