@@ -22,7 +22,7 @@ pub enum Verdict {
     Asks(usize),
 }
 
-// Which alternative is taken, or which one waits for the reply to which of the next two tokens.
+/// Which alternative is taken, or which one waits for the reply to which of the next two tokens.
 #[derive(Clone, Copy)]
 pub enum Choice {
     Nothing,
@@ -155,7 +155,7 @@ fn meets_of(term: Term, x: Lexeme) -> Verdict
     }
 }
 
-// Whether the token at a place is an expected one.
+/// Whether the token at a place is one that the table expects so.
 pub fn meets_at(names: &NameTable, tokens: &[Tok], i: usize, term: Term) -> bool
     ensures exact { IsTrue result ↔ (meets term (token_at (terminals names.now tokens.now) i) ≡ Verdict.Holds) }
     ensures within { IsTrue result → i < length tokens.now }
@@ -188,6 +188,7 @@ fn verdict_of(guard: Guard, x: Lexeme, y: Lexeme) -> Verdict
 pub fn choose(n: NonTerm, from: usize, x: Lexeme, y: Lexeme) -> Choice
     ensures first { result ≡ choice from (drop from (rule n)) (seen x.entry) (seen y.entry) }
     ensures within { IsWithin result (length (rule n)) }
+    ensures short { IsWithin result (2 ^ 64 - 1) }
 {
     let rows = alternatives(n);
     for i in from..rows.len() {
@@ -198,4 +199,16 @@ pub fn choose(n: NonTerm, from: usize, x: Lexeme, y: Lexeme) -> Choice
         }
     }
     Choice::Nothing
+}
+
+/// The alternative of a nonterminal, from number `from` on, that the token at a place and the one behind it
+/// choose: the first whose guard doesn't fail.
+pub fn choose_at(names: &NameTable, tokens: &[Tok], i: usize, n: NonTerm, from: usize) -> Choice
+    requires { i < 2 ^ 64 - 1 }
+    ensures first { result ≡ choice from (drop from (rule n)) (token_at (terminals names.now tokens.now) i) (token_at (terminals names.now tokens.now) (i + 1)) }
+    ensures within { IsWithin result (length (rule n)) }
+    ensures short { IsWithin result (2 ^ 64 - 1) }
+{
+    let next = lexeme_at(names, tokens, i);
+    choose(n, from, next, lexeme_at(names, tokens, i + 1))
 }

@@ -7,6 +7,7 @@ mod machine;
 mod stack;
 mod state;
 
+pub use guards::{Choice, choose_at, meets_at};
 pub use laws::{
     calls_are_a_trees, done_stays, events_are_a_trees, no_tree_goes_on, syntax_ends_all_trees,
     trees_are_one, trees_go_over,

@@ -1,7 +1,6 @@
 //! The open nodes of a translation unit, found from the events of its tree.
 #![tactic(auto)]
 
-mod guards;
 mod laws;
 mod nodes;
 mod pending;

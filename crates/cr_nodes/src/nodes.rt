@@ -3,16 +3,16 @@ ghost use Rattle.std.specs.Prelude.{◌≡◌, ◌+◌, ◌-◌, ◌≤◌, ◌<
 ghost use Rattle.cr_grammar.specs.Grammar.{rule};
 ghost use Rattle.cr_ll.specs.declared.state.Event.{Event};
 ghost use Rattle.cr_ll.specs.Guards.{terminals, token_at, meets, choice};
+ghost use Rattle.cr_ll.specs.Guards as spec;
 ghost use Rattle.cr_nodes.specs.Moves.{at, at_start, row, body_of, PassesTo, ActsTo, AsksAt, opens_by, by_choice, by_pending, passes_by, closes_by, move, replied};
 ghost use Rattle.cr_nodes.specs.Advancing.{Advances};
 ghost use Rattle.cr_nodes.specs.Falling.{Falls};
 
-use crate::guards::{Choice, ask_at, body_at, choose, lexeme_at, meets_at};
 use crate::pending::Pending;
-use crate::rows::{OpenRow, Rows};
+use crate::rows::{OpenRow, Rows, body_at};
 use cr_base::{NameTable, Tok};
 use cr_grammar::{Action, NonTerm, Symbol, Term};
-use cr_ll::Event;
+use cr_ll::{Choice, Event, choose_at, meets_at};
 use std::alloc::Global;
 use std::marker::Model;
 
@@ -94,6 +94,14 @@ fn is_done(event: Event) -> bool
         Event::Done => true,
         _ => false,
     }
+}
+
+// The place of the token that is asked for.
+fn ask_at(i: usize, ahead: usize) -> usize
+    requires { i < 2 ^ 32 }
+    ensures { result ≡ spec.ask_at i ahead }
+{
+    if ahead == 0 { i } else { i + 1 }
 }
 
 impl Nodes {
@@ -268,12 +276,7 @@ impl Nodes {
             self.old event result self.new }
     {
         let i = self.place as usize;
-        match choose(
-            node,
-            k,
-            lexeme_at(names, tokens, i),
-            lexeme_at(names, tokens, i + 1),
-        ) {
+        match choose_at(names, tokens, i, node, k) {
             Choice::Nothing => Err(NodesFault::Unfit),
             Choice::Takes(k) => self.open(node, k, rest),
             Choice::Waits(k, ahead) => self.ask(k, ask_at(i, ahead), event),

@@ -1,9 +1,10 @@
 //! The rows of open nodes, the innermost first.
 ghost use Rattle.std.specs.Prelude.{◌≡◌, [], ◌∷◌, OnOk, OnErr, MatchOption};
-ghost use Rattle.cr_nodes.specs.Seen.{seen_row};
+ghost use Rattle.cr_nodes.specs.Moves.{body_of};
+ghost use Rattle.cr_nodes.specs.Seen.{seen_row, seen_body};
 
 use cr_base::OutOfMemory;
-use cr_grammar::{NonTerm, Symbol};
+use cr_grammar::{NonTerm, Symbol, alternatives};
 use std::alloc::Global;
 use std::marker::Model;
 
@@ -12,6 +13,18 @@ use std::marker::Model;
 pub struct OpenRow {
     pub node: NonTerm,
     pub rest: &'static [Symbol],
+}
+
+// The symbols of a node's alternative number k.
+pub fn body_at(n: NonTerm, k: usize) -> Option<&'static [Symbol]>
+    ensures { seen_body result ≡ body_of n k }
+{
+    let rows = alternatives(n);
+    if k < rows.len() {
+        Some(rows[k].body)
+    } else {
+        None
+    }
 }
 
 #[derive(Drop)]

@@ -1,8 +1,0 @@
-use Rattle.std.proofs.Common.{rules, tests, ◌==◌}
-use Rattle.std.specs.Prelude.{bytes_eq}
-use Rattle.std.proofs.lemmas.Iterator.Splits.{YieldsList-from_slice_split}
-use Rattle.std.proofs.lemmas.Iterator.Search.{any_from_yields_List}
-use Rattle.cr_nodes.proofs.guards.is_among.Goals as goal
-
-pub returns : goal.returns
-returns c = any_from_yields_List (λ word. bytes_eq word c.args.text.now) _ _ _ c.any.ensures.ran (YieldsList-from_slice_split _ (λ b. b == 32) _ c.split.ensures.rest c.split.ensures.done c.split.ensures.closure (λ x b q k. search (rules, tests))) (λ x b q k. search (rules, tests))
