@@ -15,13 +15,7 @@ use Rattle.cr_ll.specs.Guards.{ask_at, token_at, meets, verdict, chosen, choice}
 use Rattle.cr_ll.specs.Derivation.{Passed, Due}
 use Rattle.cr_ll.specs.Machine.{Config, at, Move, Gives, Opens, AsksAt, Ends, Faults, body_at, move_by, pass, move_on, move}
 use Rattle.cr_ll.proofs.Complete.{body_first, rows_next}
-use Rattle.cr_ll.proofs.Rank.{vanishes, rank}
-
-abbrev pub weight : List Symbol → ℕ
-weight [] = 0
-weight (Term t ∷ ss) = 0
-weight (Act a ∷ ss) = 0
-weight (Non m ∷ ss) = rank m + cond (vanishes m) (weight ss) 0
+use Rattle.cr_ll.specs.Weights.{vanishes, rank, weight}
 
 -- whether something happens in these symbols
 abbrev pub solid : List Symbol → Bool

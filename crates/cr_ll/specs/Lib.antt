@@ -3,3 +3,4 @@ pub mod Derivation
 pub mod Machine
 pub mod Running
 pub mod Laws
+pub mod Weights

@@ -11,7 +11,8 @@ use Rattle.cr_ll.specs.declared.guards.Choice.{Choice}
 use Rattle.cr_ll.specs.declared.guards.Choice.TheVariants.{Nothing, Takes, Waits}
 use Rattle.cr_ll.specs.Guards.{Terminal, token_at, meets, choice}
 use Rattle.cr_ll.specs.declared.state.Event.{Event}
-use Rattle.cr_ll.proofs.Weight.{weight, fine, all_fine, table_fine, and_left, and_right, fine_lighter}
+use Rattle.cr_ll.specs.Weights.{weight}
+use Rattle.cr_ll.proofs.Weight.{fine, all_fine, table_fine, and_left, and_right, fine_lighter}
 use Rattle.cr_nodes.specs.declared.pending.Pending.{Pending}
 use Rattle.cr_nodes.specs.declared.pending.Pending.TheVariants as pending
 use Rattle.cr_nodes.specs.declared.nodes.Before.{Before}

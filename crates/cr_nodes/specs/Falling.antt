@@ -1,7 +1,7 @@
 -- How many nodes can be opened and closed before the next event.
 use Rattle.std.specs.Prelude.{ℕ, ◌+◌, ◌*◌, ◌<◌, Result, Ok, List, [], ◌∷◌, ◌++◌, length}
 use Rattle.cr_grammar.specs.declared.symbols.Symbol.{Symbol}
-use Rattle.cr_ll.proofs.Weight.{weight}
+use Rattle.cr_ll.specs.Weights.{weight}
 use Rattle.cr_nodes.specs.declared.nodes.Before.{Before}
 use Rattle.cr_nodes.specs.declared.nodes.Before.TheVariants.{Opens, Closes}
 use Rattle.cr_nodes.specs.declared.nodes.NodesFault.{NodesFault}

@@ -3,7 +3,7 @@ use Rattle.cr_ll.specs.Guards.{terminals}
 use Rattle.cr_ll.specs.Derivation.{Item}
 use Rattle.cr_ll.specs.Machine.{Config, Run}
 use Rattle.cr_ll.specs.Running.{config_of}
-use Rattle.cr_ll.proofs.Weight.{weight}
+use Rattle.cr_ll.specs.Weights.{weight}
 use Rattle.cr_ll.proofs.state.run.Given as goal
 
 abbrev pub invariant-moves : goal.invariant-moves

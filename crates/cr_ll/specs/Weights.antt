@@ -1,7 +1,9 @@
 -- How many nonterminals can be replaced before something happens.
-use Rattle.std.specs.Prelude.{ℕ, Bool, true, false}
+use Rattle.std.specs.Prelude.{ℕ, ◌+◌, Bool, true, false, cond, List, [], ◌∷◌}
 use Rattle.cr_grammar.specs.declared.symbols.NonTerm.{NonTerm}
 use Rattle.cr_grammar.specs.declared.symbols.NonTerm.TheVariants as n
+use Rattle.cr_grammar.specs.declared.symbols.Symbol.{Symbol}
+use Rattle.cr_grammar.specs.declared.symbols.Symbol.TheVariants.{Term, Non, Act}
 
 -- whether a nonterminal can vanish with no event
 unfoldable pub vanishes : NonTerm → Bool
@@ -103,3 +105,10 @@ rank n.Item = 17
 rank n.DesMore = 2
 rank n.Mod = 2
 rank _ = 1
+
+-- no more nonterminals than this are replaced before something happens
+abbrev pub weight : List Symbol → ℕ
+weight [] = 0
+weight (Term t ∷ ss) = 0
+weight (Act a ∷ ss) = 0
+weight (Non m ∷ ss) = rank m + cond (vanishes m) (weight ss) 0
