@@ -1,0 +1,3 @@
+mod Graphs
+mod Reaching
+mod Leading

@@ -1,0 +1,4 @@
+pub mod Declarations
+pub mod Graph
+pub mod RenameClass
+pub mod ShownOrder

@@ -1,0 +1,4 @@
+//! The class of entities that a rename takes together, and whether it may be done.
+#![tactic(auto)]
+
+mod graph;
