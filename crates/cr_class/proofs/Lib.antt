@@ -1,3 +1,7 @@
+mod Candidates
+mod Declared
 mod Graphs
-mod Reaching
 mod Leading
+mod Least
+mod Listed
+mod Reaching

@@ -1,5 +1,5 @@
 -- The entities that a rename takes together, and the places at which they are renamed, over the facts of all units.
-use Rattle.std.specs.Prelude.{ℕ, ◌≡◌, ◌≢◌, ◌<◌, Bool, true, ◌&&◌, List, [], ◌∷◌, length}
+use Rattle.std.specs.Prelude.{ℕ, ◌≡◌, ◌≢◌, ◌<◌, Bool, true, false, ◌&&◌, ◌⊎◌, List, [], ◌∷◌, length}
 use Rattle.std.specs.List.{list_any}
 use Rattle.std.specs.FinSet.{contains}
 use Rattle.std.specs.declared.cmp.Ordering.{Ordering}
@@ -62,18 +62,22 @@ IsFirstPlace files facts p = (k : Key) (q : Place) → DeclaresFileScope facts k
 abbrev pub IsFirstKey : Facts → Key → Type 0
 IsFirstKey facts k = ((l : Key) (q : Place) → DeclaresFileScope facts l q → ⊥) × ((l : Key) → is_file_scope facts l ≡ true → key_cmp l k ≢ Less)
 
+-- What an ordinary name means where no entity of that name has external linkage: the entity of file scope that is
+-- declared at the first place; where none has a declaring place, since its declaring tokens are all made, the one with
+-- the least key.
+abbrev pub MeansInternal : List KnownFile → Facts → Key → Type 0
+MeansInternal files facts k =
+    ((p : Place) × DeclaresFileScope facts k p × IsFirstPlace files facts p) ⊎ ((is_file_scope facts k ≡ true) × IsFirstKey facts k)
+
+-- what an ordinary name means, by whether an entity of that name has external linkage
+abbrev pub means_by : List KnownFile → Facts → List ℕ → Key → Bool → Type 0
+means_by files facts old k true = k ≡ key.Ext old
+means_by files facts old k false = MeansInternal files facts k
+
 -- What an ordinary name means at the command line (own rule of this project): the entity of that name with external
--- linkage; where there is none, the entity of file scope that is declared at the first place; where none has a declaring
--- place, since its declaring tokens are all made, the one with the least key.
-pub data MeansOrdinary (files : List KnownFile) (facts : Facts) (old : List ℕ) : Key → Type 0 where
-  external : is_renamable facts (key.Ext old) ≡ true → MeansOrdinary files facts old (key.Ext old)
-  declared :
-      {k : Key} (p : Place)
-      → (is_renamable facts (key.Ext old) ≡ true → ⊥)
-      → DeclaresFileScope facts k p
-      → IsFirstPlace files facts p
-      → MeansOrdinary files facts old k
-  made : {k : Key} → (is_renamable facts (key.Ext old) ≡ true → ⊥) → is_file_scope facts k ≡ true → IsFirstKey facts k → MeansOrdinary files facts old k
+-- linkage, and where there is none, what it means without one.
+abbrev pub MeansOrdinary : List KnownFile → Facts → List ℕ → Key → Type 0
+MeansOrdinary files facts old k = means_by files facts old k (is_renamable facts (key.Ext old))
 
 -- What a target means: the entities that its place denotes; an ordinary name; a tag of file scope; a member that is
 -- declared in the record with a tag of file scope.
