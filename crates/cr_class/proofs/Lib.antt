@@ -5,3 +5,4 @@ mod Leading
 mod Least
 mod Listed
 mod Reaching
+mod Sharings

@@ -1,4 +1,5 @@
 pub mod Declarations
 pub mod Graph
 pub mod RenameClass
+pub mod Sharing
 pub mod ShownOrder
