@@ -62,7 +62,6 @@ module _ (law : FactsAreOrdered) where
     congr = λ k l m e. law.total.congr (FileScope k) (FileScope l) (FileScope m) e;
   }
 
-
 neither : {T : Type 0} {R : T → T → Ordering} → IsTotalOrder R → (x y : T) → R x y ≢ Less → R y x ≢ Less → R x y ≡ Equal
 neither {R} order x y one two = by (R x y) refl
   where
@@ -144,8 +143,8 @@ module _ (law : FactsAreOrdered) (files : List KnownFile) (facts : Facts) (all :
   denoted_all place k = (
     λ has. (let h = from_kept (denoted_key facts place) all k has in denoted place h.0 k h.2),
     λ h. (let kind = some_kind facts k renamable_kinds h.1 in
-      kept (denoted_key facts place) all (OfKind k kind.0) k (listed law facts all is (OfKind k kind.0) kind.1)
-      (ap (λ b. if b then Some k else None) (and_true (is_renamable facts k) (contains facts (Denotes place k)) h.1 h.0))),
+        kept (denoted_key facts place) all (OfKind k kind.0) k (listed law facts all is (OfKind k kind.0) kind.1)
+        (ap (λ b. if b then Some k else None) (and_true (is_renamable facts k) (contains facts (Denotes place k)) h.1 h.0))),
   )
 
   shown_at : (first : Place) (f : Fact) (k : Key) → Contains all f → key_shown_at files facts first f ≡ Some k → (p : Place) × DeclaresFileScope facts k p × (shown_cmp files p first ≡ Equal)

@@ -1,4 +1,5 @@
 mod Candidates
+mod Classes
 mod Declared
 mod Graphs
 mod Leading

@@ -65,16 +65,17 @@ leading view R ties own items leaders size below equal one = record {
   size = size ∙ sym (length-map items view);
   below = λ n has. omega (arith, below n has, length-map items view);
   same = λ i x e. (
-    let v = unmapped view items i x e in
-    let w = equal i v.0 v.1 in
-    slice_get_map view items (get_or leaders i 0) ∙ ap (option_map view) w.1 ∙ ap Some (sym (ties (view v.0) (view w.0) w.2) ∙ v.2)
-  );
+      let v = unmapped view items i x e in
+      let w = equal i v.0 v.1 in
+      slice_get_map view items (get_or leaders i 0) ∙ ap (option_map view) w.1 ∙ ap Some (sym (ties (view v.0) (view w.0) w.2) ∙ v.2)
+      );
   one = λ i j x e f. (
-    let v = unmapped view items i x e in
-    let w = unmapped view items j x f in
-    one i j v.0 w.0 v.1 w.1 (ap (λ z. R z (view w.0)) (v.2 ∙ sym w.2) ∙ own (view w.0))
-  );
+      let v = unmapped view items i x e in
+      let w = unmapped view items j x f in
+      one i j v.0 w.0 v.1 w.1 (ap (λ z. R z (view w.0)) (v.2 ∙ sym w.2) ∙ own (view w.0))
+      );
 }
+
 -- links of declarations, first by key and then by place
 module _ (keys : List Key) (places : List Place) (beside : length keys ≡ length places) (by_key by_place : List ℕ) (leads_key : IsLeading keys by_key) (leads_place : IsLeading places by_place)
     (zero one two : List (List ℕ)) (none : (n : ℕ) → linked_with zero n ≡ []) (first : AreLinked zero one (length by_key) by_key) (second : AreLinked one two (length by_place) by_place) (count : length two ≡ length keys) where

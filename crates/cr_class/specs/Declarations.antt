@@ -55,3 +55,8 @@ denoted_key facts p _ = None
 abbrev pub key_shown_at : List KnownFile → Facts → Place → Fact → Option Key
 key_shown_at files facts first (Declares k p) = if is_file_scope facts k && is_eq (shown_cmp files p first) then Some k else None
 key_shown_at files facts first _ = None
+
+-- the place of a fact that says that it denotes an entity of a known key
+abbrev pub known_place : (Key → Bool) → Fact → Option Place
+known_place known (Denotes p k) = if known k then Some p else None
+known_place known _ = None

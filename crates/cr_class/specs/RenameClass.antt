@@ -14,7 +14,7 @@ use Rattle.cr_base.specs.contracts.key.KeyOrd.TheImpl as key_ord
 use Rattle.cr_base.specs.contracts.token.PlaceOrd.TheImpl as place_ord
 use Rattle.cr_facts.specs.FactOrder.{Facts}
 use Rattle.cr_facts.specs.declared.fact.Fact.{Fact}
-use Rattle.cr_facts.specs.declared.fact.Fact.TheVariants.{Declares, Denotes, OfKind, FileScope}
+use Rattle.cr_facts.specs.declared.fact.Fact.TheVariants.{Declares, Denotes, OfKind, FileScope, HasRole, MadeDenotes, NewMacro, BodyParam, OpaqueAt, Conflict}
 use Rattle.cr_snapshot.specs.declared.known.KnownFile.{KnownFile}
 use Rattle.cr_class.specs.declared.target.Target.{Target}
 use Rattle.cr_class.specs.declared.target.Target.TheVariants as target
@@ -104,3 +104,23 @@ IsRenamedPlace files facts old t p = (k : Key) × InClass files facts old t k ×
 -- each place at which a fact declares an entity is in a file whose number these files have
 abbrev pub DeclaresKnown : List KnownFile → Facts → Type 0
 DeclaresKnown files facts = (k : Key) (p : Place) → Has facts (Declares k p) → p.path.0 < length files
+
+-- the place of a fact is in a file whose number is below this one
+abbrev pub IsKnownFact : ℕ → Fact → Type 0
+IsKnownFact count (Declares k p) = p.path.0 < count
+IsKnownFact count (Denotes p k) = p.path.0 < count
+IsKnownFact count (HasRole p role) = p.path.0 < count
+IsKnownFact count (MadeDenotes k p) = p.path.0 < count
+IsKnownFact count (NewMacro p) = p.path.0 < count
+IsKnownFact count (BodyParam p) = p.path.0 < count
+IsKnownFact count (OpaqueAt p) = p.path.0 < count
+IsKnownFact count (Conflict k p) = p.path.0 < count
+IsKnownFact count _ = Unit {0}
+
+-- each fact's place is in such a file
+abbrev pub KnowsAll : ℕ → Facts → Type 0
+KnowsAll count facts = (f : Fact) → Has facts f → IsKnownFact count f
+
+-- each fact's place is in a file whose number these files have
+abbrev pub AreKnown : List KnownFile → Facts → Type 0
+AreKnown files facts = KnowsAll (length files) facts

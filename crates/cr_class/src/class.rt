@@ -1,12 +1,12 @@
 //! The class of a target.
-ghost use Rattle.std.specs.Prelude.{◌≡◌, ◌↔◌, ◌++◌, ◌∷◌, [], Err, IfOk, true};
-ghost use Rattle.std.specs.List.{Contains, filter_map};
+ghost use Rattle.std.specs.Prelude.{◌≡◌, ◌↔◌, Err, IfOk, true};
+ghost use Rattle.std.specs.List.{Contains};
 ghost use Rattle.std.specs.List.Sorted.{IsStrictlySortedBy};
 ghost use Rattle.std.specs.BTreeSet as tree;
 ghost use Rattle.cr_base.specs.declared.key.Key.{Key as AnyKey};
 ghost use Rattle.cr_base.specs.declared.token.Place.{Place as AnyPlace};
 ghost use Rattle.cr_facts.specs.declared.fact.Fact.TheVariants as fact;
-ghost use Rattle.cr_class.specs.RenameClass.{Has, InClass, IsTargetKey, IsRenamedPlace, DeclaresKnown, key_cmp, place_cmp};
+ghost use Rattle.cr_class.specs.RenameClass.{Has, InClass, IsTargetKey, IsRenamedPlace, AreKnown, key_cmp, place_cmp};
 ghost use Rattle.cr_class.specs.declared.class.ClassFault.TheVariants as fault;
 
 use crate::sets::{listed, set_of};
@@ -70,7 +70,7 @@ fn places_of(
 /// The class of a target over the facts of all units, for the old name. It is the least set that has the
 /// target's keys and every key that shares a declaring place with one in the set. A target's keys are
 /// those that it means and that have a kind other than a label (C11 6.2.1, 6.2.2). Keys and places rise,
-/// each once.
+/// each once, places by the number of their path. The snapshot knows the path of each fact.
 ///
 /// `NoSymbol` comes exactly where the target has no key.
 pub fn class_of(
@@ -80,7 +80,7 @@ pub fn class_of(
     old: &[u8],
     target: &Target,
 ) -> Result<Class, ClassFault>
-    requires { DeclaresKnown snapshot.now facts.now }
+    requires { AreKnown snapshot.now facts.now }
     ensures keys { IfOk result (λ class. (k : AnyKey) → Contains class.keys k ↔ InClass snapshot.now facts.now old.now target.now k) }
     ensures keys_rise { IfOk result (λ class. IsStrictlySortedBy key_cmp class.keys) }
     ensures places { IfOk result (λ class. (p : AnyPlace) → Contains class.places p ↔ IsRenamedPlace snapshot.now facts.now old.now target.now p) }

@@ -8,6 +8,8 @@ mod kinds;
 mod sets;
 mod sharing;
 mod target;
+#[cfg(test)]
+mod tests;
 
 pub use class::{Class, ClassFault, class_of};
 pub use target::Target;

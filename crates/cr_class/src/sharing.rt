@@ -31,11 +31,7 @@ fn links_of(alloc: Global, all: &Declarations) -> Result<Vec<Vec<usize>>, OutOfM
 }
 
 // The declarations of known keys.
-fn nodes_of(
-    alloc: Global,
-    keys: &[&Key],
-    known: &BTreeSet<Key>,
-) -> Result<Vec<usize>, OutOfMemory>
+fn nodes_of(alloc: Global, keys: &[&Key], known: &BTreeSet<Key>) -> Result<Vec<usize>, OutOfMemory>
     ensures { IfOk result (λ nodes. (i : ℕ) → Contains nodes.items i ↔ ((k : AnyKey) × (slice_get (map (λ k. k.now) keys.now) i ≡ Some k) × (tree.contains key_cmp known.now k ≡ true))) }
 {
     let mut nodes = Vec::new(alloc);

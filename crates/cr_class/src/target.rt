@@ -81,12 +81,7 @@ fn first_place(
 }
 
 // Whether the entity of the key can be renamed and the place denotes it.
-fn is_denoted(
-    alloc: Global,
-    facts: &FactSet,
-    place: Place,
-    key: &Key,
-) -> Result<bool, OutOfMemory>
+fn is_denoted(alloc: Global, facts: &FactSet, place: Place, key: &Key) -> Result<bool, OutOfMemory>
     ensures { IfOk result (λ is. is ≡ (spec.is_renamable facts.now key.now && contains facts.now (fact.Denotes place key.now))) }
 {
     if !is_renamable(alloc, facts, key)? {
@@ -159,13 +154,7 @@ fn lesser_key<'a>(best: Option<&'a Key>, key: &'a Key) -> &'a Key
 {
     match best {
         None => key,
-        Some(best) => {
-            if *key < *best {
-                key
-            } else {
-                best
-            }
-        }
+        Some(best) => { if *key < *best { key } else { best } }
     }
 }
 

@@ -9,7 +9,6 @@ use Rattle.cr_class.proofs.Sharings.{AreNodes, node_more, node_none, slice_get_m
 use Rattle.cr_class.proofs.sharing.nodes_of.Goals as goal
 use Rattle.cr_class.proofs.sharing.nodes_of.Goals.{then-contains+in_ok-push, else-contains}
 
-
 pub loop-i-preserved : goal.loop-i-preserved
 loop-i-preserved c =
     let keys = map (λ (k : Bor Key). k.now) c.args.keys.now in
@@ -17,12 +16,12 @@ loop-i-preserved c =
     let key = c.index-keys-i.result in
     let at = slice_get_map (λ (k : Bor Key). k.now) c.args.keys.now c.loop-i.i ∙ ap (option_map (λ (k : Bor Key). k.now)) (slice_get_read c.args.keys.now (length c.args.keys.now) c.loop-i.i key refl c.loop-i-test.true c.index-keys-i.is) in
     elim c.if-contains.branch [
-      then-contains+in_ok-push w ↦
-        subst (λ (v : Vec ℕ Global). AreNodes keys known (c.loop-i.i + 1) v.items) (sym w.nodes-is)
-        (subst (AreNodes keys known (c.loop-i.i + 1)) (sym w.in_ok-push.ensures.items) (node_more keys known c.loop-i.i key.now at c.loop-i.nodes.items c.loop-i.invariant (sym c.contains.ensures ∙ w.if-contains.true)))
-    | else-contains w ↦
-        subst (λ (v : Vec ℕ Global). AreNodes keys known (c.loop-i.i + 1) v.items) (sym w.nodes-is)
-        (node_none keys known c.loop-i.i key.now at c.loop-i.nodes.items c.loop-i.invariant (sym c.contains.ensures ∙ w.if-contains.false))
+      | then-contains+in_ok-push w ↦
+          subst (λ (v : Vec ℕ Global). AreNodes keys known (c.loop-i.i + 1) v.items) (sym w.nodes-is)
+          (subst (AreNodes keys known (c.loop-i.i + 1)) (sym w.in_ok-push.ensures.items) (node_more keys known c.loop-i.i key.now at c.loop-i.nodes.items c.loop-i.invariant (sym c.contains.ensures ∙ w.if-contains.true)))
+      | else-contains w ↦
+          subst (λ (v : Vec ℕ Global). AreNodes keys known (c.loop-i.i + 1) v.items) (sym w.nodes-is)
+          (node_none keys known c.loop-i.i key.now at c.loop-i.nodes.items c.loop-i.invariant (sym c.contains.ensures ∙ w.if-contains.false))
     ]
 
 pub returns : goal.returns

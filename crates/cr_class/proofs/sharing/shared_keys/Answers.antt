@@ -43,14 +43,14 @@ returns c k =
     let sound : (n : ℕ) → get_or seen n false ≡ true → Reaches links start n = λ n e. subst (λ l. Reaches (map items l) start n) c.deref-2.ensures.value (c.in_ok-seen.ensures.sound n e) in
     let complete : (n : ℕ) → Reaches links start n → get_or seen n false ≡ true = λ n way. c.in_ok-seen.ensures.complete n (subst (λ l. Reaches (map items l) start n) (sym c.deref-2.ensures.value) way) in
     let to : (known k ≡ true) ⊎ ((i : ℕ) × (slice_get (map key_of c.deref-3.result.now) i ≡ Some k) × (get_or c.deref-4.result.now i false ≡ true)) → Shares c.args.facts.now targets k = elim [
-      inl h ↦ given (any_key law k targets (sym (c.in_ok-known.ensures k) ∙ h))
-    | inr h ↦
-        shares_sound c.args.facts.now targets keys places c.in_ok-all.ensures links size c.in_ok-links.ensures.links start starts h.0 k
-        (sound h.0 (ap (λ l. get_or l h.0 false) (sym c.deref-4.ensures.value) ∙ h.2)) (ap (λ l. slice_get (map key_of l) h.0) (sym c.deref-3.ensures.value) ∙ h.1)
+      | inl h ↦ given (any_key law k targets (sym (c.in_ok-known.ensures k) ∙ h))
+      | inr h ↦
+          shares_sound c.args.facts.now targets keys places c.in_ok-all.ensures links size c.in_ok-links.ensures.links start starts h.0 k
+          (sound h.0 (ap (λ l. get_or l h.0 false) (sym c.deref-4.ensures.value) ∙ h.2)) (ap (λ l. slice_get (map key_of l) h.0) (sym c.deref-3.ensures.value) ∙ h.1)
     ] in
     let from : Contains targets k ⊎ ((i : ℕ) × (slice_get keys i ≡ Some k) × Reaches links start i) → (known k ≡ true) ⊎ ((i : ℕ) × (slice_get (map key_of c.deref-3.result.now) i ≡ Some k) × (get_or c.deref-4.result.now i false ≡ true)) = elim [
-      inl h ↦ inl (c.in_ok-known.ensures k ∙ key_any law k targets h)
-    | inr h ↦ inr (h.0, ap (λ l. slice_get (map key_of l) h.0) c.deref-3.ensures.value ∙ h.1, ap (λ l. get_or l h.0 false) c.deref-4.ensures.value ∙ complete h.0 h.2)
+      | inl h ↦ inl (c.in_ok-known.ensures k ∙ key_any law k targets h)
+      | inr h ↦ inr (h.0, ap (λ l. slice_get (map key_of l) h.0) c.deref-3.ensures.value ∙ h.1, ap (λ l. get_or l h.0 false) c.deref-4.ensures.value ∙ complete h.0 h.2)
     ] in (
       λ has. to ((c.in_ok-add_seen.ensures k).0 has),
       λ share. (c.in_ok-add_seen.ensures k).1 (from (shares_complete c.args.facts.now targets keys places c.in_ok-all.ensures links size c.in_ok-links.ensures.links start starts k share)),
