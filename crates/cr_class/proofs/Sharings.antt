@@ -17,7 +17,7 @@ use Rattle.cr_base.specs.declared.key.Key.{Key}
 use Rattle.cr_facts.specs.FactOrder.{Facts, FactsAreOrdered}
 use Rattle.cr_facts.specs.declared.fact.Fact.TheVariants.{Declares, FileScope, BodyParam}
 use Rattle.cr_class.specs.RenameClass.{Has, key_cmp, place_cmp}
-use Rattle.cr_class.specs.Graph.{linked_with, AreLinked, AreBelow, Leads, IsGraph, Reaches, begins, goes}
+use Rattle.cr_class.specs.Graph.{linked_with, AreLinked, AreBelow, Leads, Reaches, begins, goes}
 use Rattle.cr_class.specs.Declarations.{AreDeclarations}
 use Rattle.cr_class.specs.Sharing.{Shares, given, shared, LinksEqual}
 use Rattle.cr_class.proofs.Candidates.{key_total}

@@ -1,5 +1,5 @@
 -- The order of places in which they are shown: by the bytes of their paths, then by offset (own rule of this project).
-use Rattle.std.specs.Prelude.{ℕ, List, [], length, Option, Some, None, slice_get}
+use Rattle.std.specs.Prelude.{ℕ, List, [], Option, Some, None, slice_get}
 use Rattle.std.specs.declared.cmp.Ordering.{Ordering}
 use Rattle.std.specs.Ordering.{nat_cmp, ordering_then}
 use Rattle.std.specs.Cmp.Lexicographic.{slice_cmp}

@@ -1,12 +1,11 @@
-use Rattle.std.proofs.Common.{◌≡◌, ◌<◌, ◌⊎◌, ℕ, List, [], true, length, get_or, sym, ap, ◌∙◌, subst, arith}
+use Rattle.std.proofs.Common.{◌≡◌, ◌<◌, List, length, sym, ap, ◌∙◌, subst, arith}
 use Rattle.std.specs.Prelude.{◌↔◌}
 use Rattle.std.specs.List.{Contains, list_any}
 use Rattle.std.specs.Ordering.{eq_by_cmp}
 use Rattle.std.specs.BTreeSet as tree
 use Rattle.cr_base.specs.declared.token.Place.{Place}
-use Rattle.cr_base.specs.declared.key.Key.{Key}
 use Rattle.cr_facts.specs.declared.fact.Fact.TheVariants.{Declares}
-use Rattle.cr_class.specs.RenameClass.{key_cmp, InClass, IsTargetKey, IsRenamedPlace}
+use Rattle.cr_class.specs.RenameClass.{key_cmp, IsRenamedPlace}
 use Rattle.cr_class.proofs.Candidates.{key_total}
 use Rattle.cr_class.proofs.Sharings.{key_ties, item_at}
 use Rattle.cr_class.proofs.Classes.{any_item, item_any, class_from, class_to, first_contains}

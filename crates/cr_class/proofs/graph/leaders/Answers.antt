@@ -1,4 +1,4 @@
-use Rattle.std.proofs.Common.{◌≡◌, ◌+◌, ◌++◌, ◌∷◌, [], ℕ, List, Some, None, length, get_or, slice_get, refl, sym, ap, ◌∙◌, subst, arith, Bor}
+use Rattle.std.proofs.Common.{◌≡◌, ◌+◌, Some, length, get_or, refl, sym, ◌∙◌, subst, arith, Bor}
 use Rattle.std.proofs.lemmas.Option.{slice_get_read, slice_get_within}
 use Rattle.std.specs.BTreeMap.{get_by}
 use Rattle.cr_class.proofs.Leading.{AreLeading, more, alike}

@@ -1,4 +1,3 @@
-use Rattle.std.proofs.Common.{◌≡◌}
 use Rattle.std.specs.BTreeMap.{get_by}
 use Rattle.cr_class.proofs.Leading.{AreLeading}
 use Rattle.cr_class.proofs.graph.leaders.Given as goal

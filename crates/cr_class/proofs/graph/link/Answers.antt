@@ -1,8 +1,7 @@
-use Rattle.std.proofs.Common.{◌≡◌, ◌<◌, ℕ, length, map, get_or, refl, sym, ap, ◌∙◌, subst, arith, Vec, Global}
-use Rattle.std.proofs.lemmas.List.{length-map, length-set}
+use Rattle.std.proofs.Common.{ℕ, map, get_or, refl, ◌∙◌, arith, Vec, Global}
+use Rattle.std.proofs.lemmas.List.{length-map}
 use Rattle.std.proofs.lemmas.List.Elements.{Contains-get_or}
-use Rattle.cr_class.specs.Graph.{linked_with}
-use Rattle.cr_class.proofs.Graphs.{more_links, no_leaders, grown_length}
+use Rattle.cr_class.proofs.Graphs.{more_links, grown_length}
 use Rattle.cr_class.proofs.graph.link.Goals as goal
 
 pub add_link-requires-in-loop-i : goal.add_link-requires-in-loop-i

@@ -1,6 +1,5 @@
-use Rattle.std.proofs.Common.{◌≡◌, ◌<◌, ℕ, ◌++◌, [], ◌∷◌, Bool, true, false, List, length, map, get_or, refl, sym, ap, ◌∙◌, subst, arith, rules, Vec, Global, replicate}
-use Rattle.std.proofs.lemmas.List.{length-map, get_or-map, get_or-replicate, get_or_default, length-replicate}
-use Rattle.cr_class.specs.Graph.{linked_with}
+use Rattle.std.proofs.Common.{◌≡◌, ◌<◌, ℕ, ◌++◌, [], ◌∷◌, false, List, length, map, get_or, refl, sym, ap, ◌∙◌, subst, arith, rules, Vec, Global}
+use Rattle.std.proofs.lemmas.List.{length-map, get_or-map, get_or_default, length-replicate}
 use Rattle.cr_class.proofs.Reaching.{at_first, passed, found, whole, is_node, less, IsSearch, get_or_same}
 use Rattle.cr_class.proofs.graph.reached.Goals as goal
 

@@ -1,4 +1,4 @@
-use Rattle.std.proofs.Common.{◌≡◌, ◌+◌, length, map}
+use Rattle.std.proofs.Common.{◌+◌, length, map}
 use Rattle.cr_class.proofs.Reaching.{IsSearch, unseen}
 use Rattle.cr_class.proofs.graph.reached.Given as goal
 

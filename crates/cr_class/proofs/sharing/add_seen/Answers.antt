@@ -1,11 +1,10 @@
-use Rattle.std.proofs.Common.{◌≡◌, ◌+◌, ◌<◌, true, false, Some, length, map, get_or, refl, sym, ap, ◌∙◌, subst, arith, Bor}
+use Rattle.std.proofs.Common.{◌+◌, true, length, map, refl, sym, ap, ◌∙◌, subst, Bor}
 use Rattle.std.specs.Prelude.{cond}
 use Rattle.std.specs.Ordering.{is_eq}
 use Rattle.std.specs.Option.{option_map}
 use Rattle.std.specs.BTreeSet as tree
 use Rattle.std.specs.BTreeSet.{BTreeSet}
-use Rattle.std.proofs.lemmas.List.{length-map, get_or_default}
-use Rattle.std.proofs.lemmas.Option.{slice_get_read, slice_get_within}
+use Rattle.std.proofs.lemmas.Option.{slice_get_read}
 use Rattle.cr_base.specs.declared.key.Key.{Key}
 use Rattle.cr_class.specs.RenameClass.{key_cmp}
 use Rattle.cr_class.proofs.Sharings.{IsAdded, added_more, added_none, slice_get_map}

@@ -1,4 +1,4 @@
-use Rattle.std.proofs.Common.{◌≡◌, ◌<◌, ℕ, List, length, map, sym, ap, ◌∙◌, subst, arith, Bor, Vec, Global}
+use Rattle.std.proofs.Common.{ℕ, List, length, map, sym, ◌∙◌, subst, arith, Bor, Vec, Global}
 use Rattle.std.proofs.lemmas.List.{length-map}
 use Rattle.cr_base.specs.declared.key.Key.{Key}
 use Rattle.cr_base.specs.declared.token.Place.{Place}

@@ -1,4 +1,4 @@
-use Rattle.std.proofs.Common.{◌≡◌, ◌+◌, ◌++◌, ◌∷◌, [], ℕ, List, Vec, Global, Some, length, map, refl, sym, ap, ◌∙◌, subst, arith, Bor}
+use Rattle.std.proofs.Common.{◌+◌, ℕ, Vec, Global, length, map, refl, sym, ap, ◌∙◌, subst, arith, Bor}
 use Rattle.std.specs.Option.{option_map}
 use Rattle.std.specs.BTreeSet as tree
 use Rattle.std.proofs.lemmas.List.{length-map}

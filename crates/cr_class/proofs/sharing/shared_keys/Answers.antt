@@ -1,4 +1,4 @@
-use Rattle.std.proofs.Common.{◌≡◌, ◌<◌, ◌⊎◌, ℕ, List, Bool, true, false, Some, length, map, get_or, slice_get, sym, ap, ◌∙◌, subst, inl, inr, arith, Bor, Vec, Global}
+use Rattle.std.proofs.Common.{◌≡◌, ◌⊎◌, ℕ, List, true, false, Some, length, map, get_or, slice_get, sym, ap, ◌∙◌, subst, inl, inr, arith, Bor, Vec, Global}
 use Rattle.std.specs.Prelude.{◌↔◌}
 use Rattle.std.specs.List.{Contains}
 use Rattle.std.specs.BTreeSet as tree

@@ -1,15 +1,12 @@
-use Rattle.std.proofs.Common.{◌≡◌, ◌<◌, ◌∷◌, Some, None, length, rules, refl, sym, ap, ◌∙◌, subst}
-use Rattle.std.specs.List.{filter_map, Contains}
+use Rattle.std.proofs.Common.{◌≡◌, rules, refl, sym, ap, ◌∙◌}
+use Rattle.std.specs.List.{filter_map}
 use Rattle.std.specs.Map.Iter.{deref}
 use Rattle.std.specs.FinSet.{from_list}
 use Rattle.std.proofs.lemmas.Map.Iter.{rest_all, rest_more}
-use Rattle.cr_base.specs.declared.token.Place.{Place}
 use Rattle.cr_facts.specs.FactOrder.{fact_cmp}
-use Rattle.cr_facts.specs.declared.fact.Fact.{Fact}
 use Rattle.cr_facts.specs.declared.fact.Fact.TheVariants.{Declares}
-use Rattle.cr_class.specs.RenameClass.{Has}
 use Rattle.cr_class.specs.ShownOrder.{shown_cmp}
-use Rattle.cr_class.specs.Declarations.{least, lesser, file_scope_place}
+use Rattle.cr_class.specs.Declarations.{least, file_scope_place}
 use Rattle.cr_class.proofs.Listed.{told, first_in, rest_in}
 use Rattle.cr_class.proofs.Candidates.{no_first_place, is_first_place, lesser_known}
 use Rattle.cr_class.proofs.target.first_place.Goals as goal

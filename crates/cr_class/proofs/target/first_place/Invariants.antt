@@ -1,4 +1,4 @@
-use Rattle.std.proofs.Common.{◌≡◌, ◌<◌, ℕ, None, Some, length}
+use Rattle.std.proofs.Common.{◌≡◌, ◌<◌, None, Some, length}
 use Rattle.std.specs.List.{filter_map, Contains}
 use Rattle.cr_base.specs.declared.token.Place.{Place}
 use Rattle.cr_facts.specs.declared.fact.Fact.{Fact}

@@ -1,9 +1,8 @@
-use Rattle.std.proofs.Common.{◌≡◌, Result, Ok, Err, sym, ap, ◌∙◌, subst}
-use Rattle.std.specs.Prelude.{IfOk, ◌↔◌}
-use Rattle.std.specs.List.{Contains}
+use Rattle.std.proofs.Common.{Result, Ok, Err, sym, ap, ◌∙◌, subst}
+use Rattle.std.specs.Prelude.{IfOk}
 use Rattle.cr_base.specs.declared.key.Key.TheVariants as key
 use Rattle.cr_base.specs.declared.key.RecordKey.TheVariants as record_key
-use Rattle.cr_class.specs.RenameClass.{Means, is_renamable}
+use Rattle.cr_class.specs.RenameClass.{Means}
 use Rattle.cr_class.proofs.Candidates.{ordinary_renamable}
 use Rattle.cr_class.proofs.target.target_keys.Goals as goal
 
