@@ -1,6 +1,8 @@
 mod Candidates
 mod Classes
 mod Declared
+mod Given
+mod Judged
 mod Graphs
 mod Leading
 mod Least

@@ -40,8 +40,8 @@ pub fn compare_shown(snapshot: &Snapshot, one: Place, other: Place) -> Ordering
     paths.then(one.offset.cmp(&other.offset))
 }
 
-// The one of two places that is shown first, or the second where there is no first.
-fn first_shown(snapshot: &Snapshot, best: Option<Place>, place: Place) -> Place
+/// The one of two places that is shown first, or the second where there is no first.
+pub fn first_shown(snapshot: &Snapshot, best: Option<Place>, place: Place) -> Place
     requires best { MatchOption best (Unit {0}) (λ p. p.path.0 < length snapshot.now) }
     requires place { place.path.0 < length snapshot.now }
     ensures { result ≡ lesser (shown.shown_cmp snapshot.now) best place }
