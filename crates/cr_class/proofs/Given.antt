@@ -1,12 +1,11 @@
 -- The steps of a verdict.
-use Rattle.std.proofs.Common.{◌≡◌, ℕ, zero, suc, ◌<◌, ◌≤◌, ◌⊎◌, Bool, true, false, List, [], ◌∷◌, length, take, Option, Some, None, refl, sym, ap, ◌∙◌, subst, inl, inr, arith}
+use Rattle.std.proofs.Common.{◌≡◌, ℕ, zero, suc, ◌≤◌, ◌⊎◌, Bool, true, false, List, [], ◌∷◌, length, take, Option, refl, sym, ap, ◌∙◌, subst, inl, inr, arith}
 use Rattle.std.specs.Prelude.{◌↔◌, cond}
 use Rattle.std.specs.List.{Contains, filter_map, filter}
 use Rattle.std.proofs.lemmas.Grind.{common_steps}
 use Rattle.std.specs.FinSet.{from_list}
 use Rattle.cr_facts.specs.FactOrder.{Facts, FactsAreOrdered}
 use Rattle.cr_facts.specs.declared.fact.Fact.{Fact}
-use Rattle.cr_class.specs.RenameClass.{Has}
 use Rattle.cr_class.specs.Verdict.{IsGiven}
 use Rattle.cr_class.proofs.Listed.{listed, told, kept, from_kept, cons_cases, later}
 

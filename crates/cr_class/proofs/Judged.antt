@@ -1,27 +1,24 @@
 -- What each step of a verdict finds.
 use Rattle.std.proofs.Common.{◌≡◌, ℕ, ◌+◌, ◌<◌, ◌⊎◌, Bool, true, false, ◌||◌, List, [], ◌∷◌, length, Option, Some, None, Result, Err, refl, sym, ap, ◌∙◌, subst, inl, inr, arith}
-use Rattle.std.specs.Prelude.{◌↔◌, ◌≢◌, not, if◌then◌else◌, ◌&&◌}
+use Rattle.std.specs.Prelude.{◌↔◌, not, if◌then◌else◌, ◌&&◌}
 use Rattle.std.specs.List.{Contains, list_any}
-use Rattle.std.specs.BTreeSet as tree
 use Rattle.std.specs.declared.cmp.Ordering.{Ordering}
-use Rattle.std.specs.declared.cmp.Ordering.TheVariants.{Less}
 use Rattle.std.specs.Cmp.{IsTotalOrder, on_total}
 use Rattle.std.specs.FinSet.{contains, from_list}
 use Rattle.std.proofs.lemmas.Cmp.{then_total}
 use Rattle.std.proofs.lemmas.Bool.{cases_eq}
 use Rattle.cr_base.specs.declared.token.Place.{Place}
 use Rattle.cr_base.specs.declared.key.Key.{Key}
-use Rattle.cr_base.specs.declared.cause.Role.{Role}
 use Rattle.cr_base.specs.contracts.cause.RoleOrd.TheImpl.Laws.{total-law}
 use Rattle.cr_facts.specs.FactOrder.{Facts, FactsAreOrdered}
 use Rattle.cr_facts.specs.declared.fact.Fact.{Fact}
-use Rattle.cr_facts.specs.declared.fact.Fact.TheVariants.{Declares, Denotes, OfKind, FileScope, HasRole, MadeDenotes, NewKey, NewMacro, BodyParam, OpaqueAt, Conflict}
+use Rattle.cr_facts.specs.declared.fact.Fact.TheVariants.{Denotes, FileScope, HasRole, MadeDenotes, NewKey, NewMacro, BodyParam, OpaqueAt, Conflict}
 use Rattle.cr_snapshot.specs.declared.known.KnownFile.{KnownFile}
-use Rattle.cr_class.specs.RenameClass.{Has, AreKnown, IsKnownFact}
-use Rattle.cr_class.specs.ShownOrder.{shown_cmp, path_of}
+use Rattle.cr_class.specs.RenameClass.{Has, AreKnown}
+use Rattle.cr_class.specs.ShownOrder.{path_of}
 use Rattle.cr_class.specs.Judging.{scope_of}
 use Rattle.cr_class.specs.Declarations.{least, lesser}
-use Rattle.cr_class.specs.Verdict.{IsGiven, IsLeast, Passes, Refuses, IsFirstRefusal, step_of, role_cmp, use_cmp, is_in_class, is_renamed, macro_place, mixed_use, made_place, opaque_place, capture_place, renamed_key, is_mixed_role, is_made_role, is_unwritable_path, is_unspellable_at, bytes_of, IsReservedScope}
+use Rattle.cr_class.specs.Verdict.{IsGiven, IsLeast, Passes, Refuses, IsFirstRefusal, step_of, use_cmp, is_in_class, is_renamed, macro_place, mixed_use, made_place, opaque_place, capture_place, renamed_key, is_mixed_role, is_made_role, is_unwritable_path, is_unspellable_at, bytes_of, IsReservedScope}
 use Rattle.cr_class.specs.declared.class.Class.{Class}
 use Rattle.cr_class.specs.declared.uses.Use.{Use}
 use Rattle.cr_class.specs.declared.refusal.Refusal.{Refusal}

@@ -1,5 +1,5 @@
 -- What the steps of a verdict show of a question. No contract of a public call cites it.
-use Rattle.std.specs.Prelude.{ℕ, ◌≡◌, Bool, false, Option}
+use Rattle.std.specs.Prelude.{ℕ, ◌≡◌, Bool, false}
 use Rattle.cr_facts.specs.declared.fact.Fact.{Fact}
 use Rattle.cr_facts.specs.declared.fact.Fact.TheVariants.{FileScope}
 use Rattle.std.specs.Option.{option_map}

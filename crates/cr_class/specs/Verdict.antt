@@ -1,6 +1,6 @@
 -- Whether the entities of a class may be renamed, over the facts of all units. Each refusal is stated by itself; the
 -- answer is the first of them, in the order of their steps.
-use Rattle.std.specs.Prelude.{ℕ, ◌≡◌, ◌≢◌, ◌<◌, ◌+◌, Bool, true, false, not, ◌&&◌, ◌||◌, ◌==◌, List, [], ◌∷◌, length, take, drop, Option, Some, None, if◌then◌else◌, bytes_eq, nat_eq, nat_le}
+use Rattle.std.specs.Prelude.{ℕ, ◌≡◌, ◌≢◌, ◌<◌, ◌+◌, Bool, true, false, not, ◌&&◌, ◌||◌, ◌==◌, List, [], ◌∷◌, length, drop, Option, Some, None, if◌then◌else◌, bytes_eq, nat_eq, nat_le}
 use Rattle.std.specs.List.{Contains, list_any, starts_with}
 use Rattle.std.specs.FinSet.{contains}
 use Rattle.std.specs.declared.cmp.Ordering.{Ordering}

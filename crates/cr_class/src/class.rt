@@ -7,6 +7,7 @@ ghost use Rattle.cr_base.specs.declared.key.Key.{Key as AnyKey};
 ghost use Rattle.cr_base.specs.declared.token.Place.{Place as AnyPlace};
 ghost use Rattle.cr_facts.specs.declared.fact.Fact.TheVariants as fact;
 ghost use Rattle.cr_class.specs.RenameClass.{Has, InClass, IsTargetKey, IsRenamedPlace, AreKnown, key_cmp, place_cmp};
+ghost use Rattle.cr_class.specs.Verdict.{KnowsClass};
 ghost use Rattle.cr_class.specs.declared.class.ClassFault.TheVariants as fault;
 
 use crate::sets::{listed, set_of};
@@ -85,6 +86,7 @@ pub fn class_of(
     ensures keys_rise { IfOk result (λ class. IsStrictlySortedBy key_cmp class.keys) }
     ensures places { IfOk result (λ class. (p : AnyPlace) → Contains class.places p ↔ IsRenamedPlace snapshot.now facts.now old.now target.now p) }
     ensures places_rise { IfOk result (λ class. IsStrictlySortedBy place_cmp class.places) }
+    ensures known { IfOk result (λ class. KnowsClass snapshot.now class) }
     ensures symbol { IfOk result (λ class. (k : AnyKey) × IsTargetKey snapshot.now facts.now old.now target.now k) }
     ensures no_symbol { result ≡ Err fault.NoSymbol → (k : AnyKey) → IsTargetKey snapshot.now facts.now old.now target.now k → ⊥ }
 {

@@ -1,12 +1,10 @@
 use Rattle.std.proofs.Common.{◌≡◌, ◌++◌, sym, ap, ◌∙◌, subst, append-nil}
 use Rattle.std.specs.Prelude.{◌↔◌}
 use Rattle.std.specs.List.{Contains, filter_map}
-use Rattle.std.specs.BTreeSet as tree
 use Rattle.std.specs.Map.Iter.{deref}
 use Rattle.std.specs.FinSet.{from_list}
 use Rattle.std.proofs.lemmas.Map.Iter.{rest_all}
 use Rattle.cr_facts.specs.FactOrder.{fact_cmp}
-use Rattle.cr_class.specs.RenameClass.{key_cmp, place_cmp}
 use Rattle.cr_class.specs.Verdict.{opaque_place, IsGiven}
 use Rattle.cr_class.proofs.Given.{given_all}
 use Rattle.cr_class.proofs.places.opaque_places.Goals as goal

@@ -1,7 +1,5 @@
 use Rattle.std.proofs.Common.{◌≡◌, ◌++◌}
 use Rattle.std.specs.List.{filter_map}
-use Rattle.std.specs.BTreeSet as tree
-use Rattle.cr_class.specs.RenameClass.{key_cmp, place_cmp}
 use Rattle.cr_class.specs.Verdict.{opaque_place}
 use Rattle.cr_class.proofs.places.opaque_places.Given as goal
 

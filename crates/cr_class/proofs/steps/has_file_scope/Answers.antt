@@ -1,15 +1,12 @@
-use Rattle.std.proofs.Common.{◌≡◌, Bool, true, false, ◌||◌, ◌∷◌, List, sym, ap, ◌∙◌, subst}
-use Rattle.std.specs.List.{list_any, Contains}
+use Rattle.std.proofs.Common.{◌≡◌, true, ◌||◌, sym, ap, ◌∙◌}
+use Rattle.std.specs.List.{list_any}
 use Rattle.std.specs.BTreeSet as tree
 use Rattle.std.specs.Map.Iter.{deref}
 use Rattle.std.specs.FinSet.{from_list}
 use Rattle.std.proofs.lemmas.Map.Iter.{rest_all, rest_more}
 use Rattle.cr_facts.specs.FactOrder.{fact_cmp}
-use Rattle.cr_facts.specs.declared.fact.Fact.{Fact}
-use Rattle.cr_facts.specs.declared.fact.Fact.TheVariants.{FileScope}
 use Rattle.cr_class.specs.RenameClass.{key_cmp}
 use Rattle.cr_class.specs.Judging.{scope_of}
-use Rattle.cr_class.proofs.Listed.{listed}
 use Rattle.cr_class.proofs.Judged.{scope_found, scope_any}
 use Rattle.cr_class.proofs.steps.has_file_scope.Goals as goal
 

@@ -1,7 +1,6 @@
-use Rattle.std.proofs.Common.{◌≡◌, false}
-use Rattle.std.specs.List.{filter_map, list_any}
+use Rattle.std.proofs.Common.{◌≡◌}
+use Rattle.std.specs.List.{list_any}
 use Rattle.std.specs.BTreeSet as tree
-use Rattle.cr_facts.specs.declared.fact.Fact.{Fact}
 use Rattle.cr_class.specs.RenameClass.{key_cmp}
 use Rattle.cr_class.specs.Judging.{scope_of}
 use Rattle.cr_class.proofs.steps.has_file_scope.Given as goal

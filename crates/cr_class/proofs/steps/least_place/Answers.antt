@@ -1,4 +1,4 @@
-use Rattle.std.proofs.Common.{◌≡◌, ℕ, suc, ◌+◌, Some, sym, ap, ◌∙◌, arith, drop, drop-cons, get_or}
+use Rattle.std.proofs.Common.{◌≡◌, suc, ◌+◌, Some, sym, ap, ◌∙◌, arith, drop, drop-cons, get_or}
 use Rattle.cr_base.specs.declared.token.Place.{Place}
 use Rattle.std.proofs.lemmas.List.Elements.{Contains-get_or}
 use Rattle.cr_class.specs.ShownOrder.{shown_cmp}

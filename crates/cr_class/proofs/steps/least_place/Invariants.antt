@@ -1,4 +1,4 @@
-use Rattle.std.proofs.Common.{◌≡◌, ◌<◌, None, Some, take, drop, length}
+use Rattle.std.proofs.Common.{◌≡◌, ◌<◌, None, Some, drop, length}
 use Rattle.cr_base.specs.declared.token.Place.{Place}
 use Rattle.cr_class.specs.ShownOrder.{shown_cmp}
 use Rattle.cr_class.specs.Declarations.{least}

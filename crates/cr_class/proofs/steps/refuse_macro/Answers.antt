@@ -1,23 +1,13 @@
-use Rattle.std.proofs.Common.{◌≡◌, Bool, Ok, Err, refl, sym, ap, ◌∙◌, subst, List, ℕ, Bor, None}
-use Rattle.std.specs.Prelude.{◌↔◌}
+use Rattle.std.proofs.Common.{refl, sym, ap, ◌∙◌, subst, Bor, None}
 use Rattle.std.specs.List.{Contains}
 use Rattle.std.specs.Option.{option_map}
-use Rattle.std.specs.BTreeSet as tree
-use Rattle.cr_base.specs.declared.token.Place.{Place}
-use Rattle.cr_base.specs.declared.key.Key.{Key}
 use Rattle.cr_base.specs.declared.path.PathText.{PathText}
-use Rattle.cr_class.specs.declared.uses.Use.{Use}
-use Rattle.cr_class.specs.declared.refusal.Refusal.{Refusal}
-use Rattle.cr_class.specs.declared.refusal.Refusal.TheVariants as refusal
-use Rattle.cr_class.specs.declared.refusal.VerdictFault.{VerdictFault}
-use Rattle.cr_class.specs.declared.refusal.VerdictFault.TheVariants as fault
-use Rattle.cr_class.specs.RenameClass.{key_cmp, place_cmp}
-use Rattle.cr_class.specs.ShownOrder.{shown_cmp, path_of}
+use Rattle.cr_class.specs.ShownOrder.{shown_cmp}
 use Rattle.cr_class.specs.Declarations.{least}
 use Rattle.cr_class.specs.Judging.{RefusesAt}
-use Rattle.cr_class.specs.Verdict.{IsGiven, use_cmp, is_in_class, is_renamed, macro_place, opaque_place, mixed_use, made_place, capture_place, is_unwritable_path, is_unspellable_at, bytes_of}
+use Rattle.cr_class.specs.Verdict.{IsGiven, macro_place}
 use Rattle.cr_class.proofs.Candidates.{shown_total}
-use Rattle.cr_class.proofs.Judged.{use_total, none_found, some_found, same_refusal, known_macro, passes_macro}
+use Rattle.cr_class.proofs.Judged.{none_found, some_found, same_refusal, known_macro, passes_macro}
 use Rattle.cr_class.proofs.steps.refuse_macro.Goals as goal
 
 pub least_place-requires : goal.least_place-requires
