@@ -41,7 +41,7 @@ use Rattle.cr_binding.specs.BindingGrows.{Extends, Grows, BindingGrows, FaultSta
 extends_itself : {A : Type 0} (xs ys : List A) → ys ≡ xs → Extends xs ys
 extends_itself xs ys e = ([], e ∙ sym (append-nil xs))
 
-extends_on : {A : Type 0} (xs ys zs : List A) → Extends xs ys → Extends ys zs → Extends xs zs
+pub extends_on : {A : Type 0} (xs ys zs : List A) → Extends xs ys → Extends ys zs → Extends xs zs
 extends_on xs ys zs x y = (x.0 ++ y.0, y.1 ∙ ap (λ l. l ++ y.0) x.1 ∙ append_assoc xs x.0 y.0)
 
 -- a state with the same lists
@@ -294,7 +294,7 @@ ending_grows t s = followed s (all_jumps t s.jumps s) _ (jumps_grow t s.jumps s)
 
 -- ---- actions, ends of nodes, and the walk
 
-acted_grows : (t : Source) (m : NonTerm) (first : ℕ) (x : Action) (s : State) → Grows s (acted t m first x s)
+pub acted_grows : (t : Source) (m : NonTerm) (first : ℕ) (x : Action) (s : State) → Grows s (acted t m first x s)
 acted_grows t m first a.Spec s = specifier_grows t first s
 acted_grows t m first a.Declare s = named_grows t s.pending.name (declared_type s) s
 acted_grows t m first a.Param s = parameter_grows t s.pending.name (declared_type s) s

@@ -1,0 +1,4 @@
+mod Growth
+mod Renamed
+mod Texts
+mod Walking

@@ -1,0 +1,27 @@
+//! The law that a renaming keeps what the identifiers of a whole translation unit mean.
+#![tactic(auto)]
+
+ghost use Rattle.cr_binding_law.specs.UnitStays.{RenamingKeepsUnits};
+
+use cr_binding::{
+    actions_are_done, binding_grows, binding_stays, free_units_have_free_mentions,
+    renaming_keeps_members, renaming_keeps_what_is_asked, renaming_keeps_what_is_read,
+};
+use cr_scope::lookup_means;
+
+/// Where entities of a well-formed unit get a new name, and no conflict of the unit is one of theirs, the unit is
+/// well-formed with the same tree, and each identifier means what it meant (C11 6.2.1 to 6.2.3).
+///
+/// It does nothing: its contract is the law.
+pub fn renaming_keeps_units()
+    ensures { RenamingKeepsUnits }
+{
+    lookup_means();
+    binding_grows();
+    actions_are_done();
+    binding_stays();
+    renaming_keeps_what_is_read();
+    renaming_keeps_what_is_asked();
+    renaming_keeps_members();
+    free_units_have_free_mentions();
+}
