@@ -185,7 +185,7 @@ tag_grows : (t : Source) (i : ℕ) (c : CType) (s : State) → Grows s (declare_
 tag_grows t i c s =
     followed s (declare_plain t space.Tag s.keyword i c s) _ (plain_grows t space.Tag s.keyword i c s) (based_grows c _)
 
-again_grows : (d : Option Declaration) (t : Source) (i : ℕ) (s : State) → Grows s (tag_again d t i s)
+pub again_grows : (d : Option Declaration) (t : Source) (i : ℕ) (s : State) → Grows s (tag_again d t i s)
 again_grows None t i s = followed s (with_record i s) _ (record_grows i s) (tag_grows t i (new_type s) (with_record i s))
 again_grows (Some d) t i s = tag_grows t i d.type s
 

@@ -1,4 +1,6 @@
+mod Acting
 mod Growth
+mod Mentioning
 mod Renamed
 mod Texts
 mod Walking

@@ -59,6 +59,10 @@ linked_one t d e names ld le =
     by true false b r hn ha hb = cc
     by false a b r hn ha hb = cc
 
+-- the number of the next declaration
+abbrev pub own : State → DeclNo
+own s = numbered (length s.declarations)
+
 module _ (law : Laws) (class : ℕ → Bool) (old new : Name) (t u : Source) (ren : IsRenamed class old new t u) (end : State) (ents : AreEntities class t end) (free : IsFreeUnit class old new t end) where
   pub respelled : IsRespelled class new t u
   respelled = record { names = ren.names }
@@ -115,9 +119,6 @@ module _ (law : Laws) (class : ℕ → Bool) (old new : Name) (t u : Source) (re
   pub record IsAdded (ds : List Declaration) (d : Declaration) : Type 0 where
     pub fine : list_any (clashes (entry t d)) (map (entry t) ds) ≡ false
     pub there : Extends (ds ++ d ∷ []) end.declarations
-
-  abbrev pub own : State → DeclNo
-  own s = numbered (length s.declarations)
 
   module _ (s : State) (d : Declaration) (added : IsAdded s.declarations d) where
     joined : entries_of t s ++ entry t d ∷ [] ≡ map (entry t) (s.declarations ++ d ∷ [])
