@@ -1,5 +1,6 @@
 mod Acting
 mod Growth
+mod Membering
 mod Mentioning
 mod Renamed
 mod Texts
