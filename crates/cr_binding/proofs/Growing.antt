@@ -283,7 +283,7 @@ jump_grows (Some k) i s = used_grows _ s
 unless_grows : (s x : State) → Grows s x → Grows s (unless_failed s x)
 unless_grows s x g = if_grows (is_some s.fault) s s x (itself s) g
 
-jumps_grow : (t : Source) (is : List ℕ) (s : State) → Grows s (all_jumps t is s)
+pub jumps_grow : (t : Source) (is : List ℕ) (s : State) → Grows s (all_jumps t is s)
 jumps_grow t [] s = itself s
 jumps_grow t (i ∷ is) s =
     let k = meaning_here t space.Label i s in

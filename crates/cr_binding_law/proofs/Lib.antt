@@ -1,5 +1,7 @@
 mod Acting
+mod Apart
 mod Growth
+mod Jumping
 mod Membering
 mod Mentioning
 mod Renamed
