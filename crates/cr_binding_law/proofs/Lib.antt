@@ -4,6 +4,7 @@ mod Growth
 mod Jumping
 mod Membering
 mod Mentioning
+mod Parsing
 mod Renamed
 mod Texts
 mod Walking
