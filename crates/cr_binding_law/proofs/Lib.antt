@@ -1,4 +1,5 @@
 mod Acting
+mod Answering
 mod Apart
 mod Growth
 mod Jumping
@@ -6,5 +7,6 @@ mod Membering
 mod Mentioning
 mod Parsing
 mod Renamed
+mod Resolving
 mod Texts
 mod Walking

@@ -24,6 +24,9 @@ pub record IsLookedUpLater (t : Source) (s : State) (i : ℕ) (path : List ℕ) 
 pub record IsParameterLater (s : State) (i : ℕ) (answer : Bool) : Type 0 where
   pub denied : answer ≡ false
   pub used : Contains s.uses (IsParameter i)
+  pub itself : Declaration
+  pub declared : Contains s.declarations itself
+  pub own : itself.token ≡ i
 
 -- or be supplied by the compiler.
 pub record IsSuppliedLater (s : State) (i : ℕ) (answer : Bool) : Type 0 where
