@@ -1,42 +1,38 @@
 -- Actions that name what is declared read the same after a renaming.
-use Rattle.std.specs.Prelude.{◌≡◌, ℕ, Bool, true, false, not, ◌&&◌, ◌||◌, eqb, if◌then◌else◌, Option, Some, None, option_map, List, [], ◌∷◌, ◌++◌, length, map, slice_get, Contains}
+use Rattle.std.specs.Prelude.{◌≡◌, ℕ, Bool, true, false, not, ◌&&◌, ◌||◌, if◌then◌else◌, Option, Some, None, List, [], ◌∷◌, ◌++◌, length, map, Contains}
 use Rattle.std.specs.List.{list_any}
 use Rattle.std.proofs.Common.{refl, sym, ◌∙◌, ap, subst}
 use Rattle.cr_base.specs.declared.Kind.{Kind}
 use Rattle.cr_base.specs.declared.Kind.TheVariants as kind
 use Rattle.cr_base.specs.declared.Name.{Name}
-use Rattle.cr_base.specs.declared.cause.IllCause.{IllCause}
 use Rattle.cr_base.specs.declared.cause.IllCause.TheVariants as cause
 use Rattle.cr_scope.specs.declared.Space.{Space}
 use Rattle.cr_scope.specs.declared.Space.TheVariants as space
 use Rattle.cr_scope.specs.declared.DeclNo.{DeclNo}
 use Rattle.cr_scope.specs.declared.Linkage.{Linkage}
 use Rattle.cr_scope.specs.declared.Linkage.TheVariants as linkage
-use Rattle.cr_scope.specs.Declarations.{Entry, number, same_name}
+use Rattle.cr_scope.specs.Declarations.{Entry, number}
 use Rattle.cr_scope.specs.Meaning.{IsLookup}
 use Rattle.cr_scope.specs.Linkage.{is_file_scope, linkage_by}
-use Rattle.cr_scope.specs.Redeclaration.{clashes, same_path, repeats}
+use Rattle.cr_scope.specs.Redeclaration.{clashes}
 use Rattle.cr_types.specs.Types.{CType}
 use Rattle.cr_decl.specs.declared.SpecWord.TheVariants as word
 use Rattle.cr_typing.specs.ExpressionTypes.{decayed}
 use Rattle.cr_capture.specs.declared.Mention.TheVariants as mention
 use Rattle.cr_capture.specs.Renaming.{IsFree}
-use Rattle.cr_capture.proofs.Renamed.{numbered, found_at, lookup_one}
-use Rattle.cr_binding.specs.Source.{Source, name_at, text_at, is_identifier, is_built_in}
-use Rattle.cr_binding.specs.State.{Declaration, Record, Use, LookedUp, IsBuiltIn, IsParameter, State}
-use Rattle.cr_binding.specs.Entities.{entry, is_tag, is_linked, is_typedef, is_tag_here, token_or, are_one}
-use Rattle.cr_binding.specs.Declaring.{failed, used, declare, declaration, declaration_at, meaning_here, linkage_for, linkage_seen, is_internal, has_word, looked_up, kind_of, declare_as, declare_named, declare_plain, declare_parameter, is_function_kind}
-use Rattle.cr_binding.specs.Specifying.{based, named_type, typedef_name, specified_by, specifier_at, type_specifier, declared_type}
-use Rattle.cr_binding.specs.Tags.{is_record_kind, is_union_kind, with_record, new_type, tag_here, declare_tag, tag_again, tag_alone, filling, completing, tag_definition, used_tag, tag_use}
-use Rattle.cr_binding.specs.Expressions.{push, built_in, is_value, denoting, identifier, is_function_name}
-use Rattle.cr_binding.specs.ActionsStay.{declared_by, entries_of, scopes_of, tag_at, taking, taken_linkage}
+use Rattle.cr_capture.proofs.Renamed.{lookup_one}
+use Rattle.cr_binding.specs.Source.{Source, name_at}
+use Rattle.cr_binding.specs.State.{Declaration, LookedUp, IsParameter, State}
+use Rattle.cr_binding.specs.Entities.{entry}
+use Rattle.cr_binding.specs.Declaring.{failed, used, declare, declaration, declaration_at, meaning_here, linkage_for, is_internal, has_word, looked_up, kind_of, declare_as, declare_named, declare_plain, declare_parameter}
+use Rattle.cr_binding.specs.Specifying.{declared_type}
+use Rattle.cr_binding.specs.ActionsStay.{declared_by, entries_of, scopes_of, taken_linkage}
 use Rattle.cr_binding.specs.FreeUnits.{IsFreeUnit}
 use Rattle.cr_binding.specs.BindingGrows.{Extends, Grows}
-use Rattle.cr_binding.specs.BindingStays.{MeansAlike, DeclaresAlike, MentionsAlike, NamesATagAlike, UsesATagAlike, DeclaresPending, SeesAlike, SeesPending, is_refused}
-use Rattle.cr_binding_law.specs.Renaming.{HasNoOwnMeaning, IsRenamed, AreEntities}
-use Rattle.cr_binding_law.proofs.Growth.{last_there, without_last, get_contains, still_at}
-use Rattle.cr_binding_law.proofs.Renamed.{Laws, respelled, all_free, mention_free, looked_alike, IsAdded, own, with_renaming, own_number, own_free, new_tag_free, added_alike}
-use Rattle.cr_binding_law.proofs.Texts.{third_alike, third_by, function_name_alike, supplied_alike}
+use Rattle.cr_binding.specs.BindingStays.{MeansAlike, DeclaresAlike, DeclaresPending, SeesPending}
+use Rattle.cr_binding_law.specs.Renaming.{IsRenamed, AreEntities}
+use Rattle.cr_binding_law.proofs.Growth.{last_there, without_last}
+use Rattle.cr_binding_law.proofs.Renamed.{Laws, respelled, all_free, mention_free, looked_alike, IsAdded, own, with_renaming, own_number, own_free, added_alike}
 
 pub some_not : {A : Type 0} (x : A) → Some x ≡ None → ⊥
 some_not x e = cc

@@ -1,5 +1,5 @@
 -- What was asked in a unit has the same answers after a renaming.
-use Rattle.std.specs.Prelude.{◌≡◌, ◌⊎◌, ℕ, zero, suc, ◌<◌, Bool, true, false, cond, ◌==◌, Option, Some, None, option_and_then, option_map, List, [], ◌∷◌, ◌++◌, length, map, take, slice_get, slice_index_or, Contains}
+use Rattle.std.specs.Prelude.{◌≡◌, ◌⊎◌, ℕ, zero, suc, ◌<◌, Bool, true, false, cond, ◌==◌, Some, None, option_and_then, option_map, List, [], ◌∷◌, ◌++◌, length, map, take, slice_get, slice_index_or, Contains}
 use Rattle.std.specs.List.{find}
 use Rattle.std.proofs.Common.{refl, sym, ◌∙◌, ap, subst, inl, inr, arith}
 use Rattle.std.proofs.lemmas.Bool.{eqb-true, eq-eqb}
@@ -9,17 +9,16 @@ use Rattle.cr_scope.specs.declared.Space.TheVariants as space
 use Rattle.cr_scope.specs.declared.DeclNo.{DeclNo}
 use Rattle.cr_scope.specs.Declarations.{Entry, Flat, number}
 use Rattle.cr_scope.specs.Meaning.{Sees}
-use Rattle.cr_scope.specs.Redeclaration.{clashes}
 use Rattle.cr_scope.proofs.Paths.{prefix_more}
 use Rattle.cr_capture.specs.declared.Mention.{Mention}
 use Rattle.cr_capture.specs.declared.Mention.TheVariants as mention
-use Rattle.cr_capture.specs.Conflicts.{Pair, IsConflict, IsCaptured, IsHidden, FindsTypedef, FollowsTypedef, UncoversTypedef, TakesTypeName}
+use Rattle.cr_capture.specs.Conflicts.{Pair, IsConflict, IsCaptured, IsHidden}
 use Rattle.cr_capture.specs.Renaming.{IsFree, AreAccepted, IsFreeParameter}
 use Rattle.cr_capture.proofs.Renamed.{numbered}
 use Rattle.cr_binding.specs.Source.{Source, name_at}
-use Rattle.cr_binding.specs.State.{Declaration, Use, LookedUp, IsParameter, IsBuiltIn, WasAsked, State, start}
+use Rattle.cr_binding.specs.State.{Declaration, LookedUp, IsParameter, IsBuiltIn, WasAsked, State, start}
 use Rattle.cr_binding.specs.Entities.{entry}
-use Rattle.cr_binding.specs.UnitConflicts.{scopes_at, Mentions, declaration_of as named_by}
+use Rattle.cr_binding.specs.UnitConflicts.{scopes_at}
 use Rattle.cr_binding.specs.WellFormed.{is_some_typedef, is_typedef_name, AreAnswered}
 use Rattle.cr_binding.specs.ActionsStay.{declared_by, scopes_of}
 use Rattle.cr_binding.specs.FreeUnits.{IsFreeUnit}

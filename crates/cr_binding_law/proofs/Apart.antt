@@ -1,11 +1,11 @@
 -- In a unit without conflicts no declaration that is renamed meets one of the new name.
-use Rattle.std.specs.Prelude.{◌≡◌, ◌⊎◌, ℕ, zero, suc, ◌+◌, ◌<◌, ◌≤◌, Bool, true, false, ltb, Option, Some, option_map, List, [], ◌∷◌, length, map, take, drop, slice_get}
+use Rattle.std.specs.Prelude.{◌≡◌, ◌⊎◌, ℕ, zero, suc, ◌+◌, ◌<◌, ◌≤◌, Bool, true, false, ltb, Some, option_map, List, [], ◌∷◌, take, drop, slice_get}
 use Rattle.std.proofs.Common.{refl, sym, ◌∙◌, ap, inl, inr, arith}
 use Rattle.std.proofs.lemmas.Bool.{ltb-true, lt-ltb}
 use Rattle.std.proofs.lemmas.List.{take-append-drop}
 use Rattle.std.proofs.lemmas.Option.{slice_get_within}
 use Rattle.cr_base.specs.declared.Name.{Name}
-use Rattle.cr_scope.specs.Declarations.{Entry, Flat, number}
+use Rattle.cr_scope.specs.Declarations.{Flat}
 use Rattle.cr_scope.specs.Linkage.{has_linkage}
 use Rattle.cr_capture.specs.declared.Mention.TheVariants as mention
 use Rattle.cr_capture.specs.Renaming.{IsRenaming, IsFree}
@@ -13,7 +13,7 @@ use Rattle.cr_capture.proofs.Renamed.{numbered}
 use Rattle.cr_binding.specs.Source.{Source, name_at}
 use Rattle.cr_binding.specs.State.{Declaration, State}
 use Rattle.cr_binding.specs.Entities.{entry}
-use Rattle.cr_binding.specs.UnitConflicts.{scopes_at, entries_at}
+use Rattle.cr_binding.specs.UnitConflicts.{scopes_at}
 use Rattle.cr_binding.specs.ActionsStay.{declared_by}
 use Rattle.cr_binding.specs.FreeUnits.{IsFreeUnit}
 use Rattle.cr_binding.specs.BindingGrows.{Extends}

@@ -1,5 +1,5 @@
 -- Labels mean the same after a renaming.
-use Rattle.std.specs.Prelude.{◌≡◌, ◌⊎◌, ℕ, suc, ◌<◌, ◌≤◌, Bool, true, false, ◌&&◌, eqb, if◌then◌else◌, Option, Some, None, is_some, List, [], ◌∷◌, ◌++◌, length, slice_get, Contains}
+use Rattle.std.specs.Prelude.{◌≡◌, ◌⊎◌, ℕ, ◌<◌, Bool, true, eqb, if◌then◌else◌, Option, Some, None, is_some, List, [], ◌∷◌, length, slice_get, Contains}
 use Rattle.std.proofs.Common.{refl, sym, ◌∙◌, ap, subst, inl, inr, arith}
 use Rattle.std.proofs.lemmas.Bool.{eqb-true}
 use Rattle.cr_base.specs.declared.Name.{Name}
@@ -8,10 +8,10 @@ use Rattle.cr_base.specs.declared.cause.IllCause.TheVariants as cause
 use Rattle.cr_scope.specs.declared.Space.TheVariants as space
 use Rattle.cr_scope.specs.declared.DeclNo.{DeclNo}
 use Rattle.cr_scope.specs.Declarations.{Entry, number, depth, is_prefix}
-use Rattle.cr_scope.specs.Meaning.{Sees, IsLookup}
+use Rattle.cr_scope.specs.Meaning.{IsLookup}
 use Rattle.cr_scope.proofs.Paths.{and_both}
 use Rattle.cr_capture.specs.declared.Mention.TheVariants as mention
-use Rattle.cr_capture.specs.Conflicts.{Pair, IsConflict, IsEntry, IsCaptured, IsHidden}
+use Rattle.cr_capture.specs.Conflicts.{Pair, IsCaptured, IsHidden}
 use Rattle.cr_capture.specs.Renaming.{IsFree}
 use Rattle.cr_capture.proofs.Renamed.{numbered, found_at}
 use Rattle.cr_binding.specs.Source.{Source, name_at}
@@ -26,7 +26,6 @@ use Rattle.cr_binding.specs.BindingStays.{MeansAlike, JumpAlike}
 use Rattle.cr_binding.proofs.Asking.{declaration_of}
 use Rattle.cr_binding.proofs.Growing.{followed, jumps_grow}
 use Rattle.cr_binding_law.specs.Renaming.{IsRenamed, AreEntities}
-use Rattle.cr_binding_law.specs.UnitStays.{LabelsAreInFunctions}
 use Rattle.cr_binding_law.proofs.Growth.{still_at, get_contains, last_there}
 use Rattle.cr_binding_law.proofs.Renamed.{Laws, denoted_alike}
 use Rattle.cr_binding_law.proofs.Apart.{apart}
@@ -43,7 +42,7 @@ one_path (a ∷ p) (b ∷ q) (c ∷ r) hp hq e =
     let y : (eqb b c ≡ true) × (is_prefix q r ≡ true) = and_both (eqb b c) (is_prefix q r) hq in
     ap (λ k. k ∷ p) (eqb-true a c x.0 ∙ sym (eqb-true b c y.0)) ∙ ap (λ l. b ∷ l) (one_path p q r x.1 y.1 (omega (arith, e)))
 
-module _ (law : Laws) (class : ℕ → Bool) (old new : Name) (t u : Source) (ren : IsRenamed class old new t u) (end : State) (ents : AreEntities class t end) (free : IsFreeUnit class old new t end) (labels : LabelsAreInFunctions end) where
+module _ (law : Laws) (class : ℕ → Bool) (old new : Name) (t u : Source) (ren : IsRenamed class old new t u) (end : State) (ents : AreEntities class t end) (free : IsFreeUnit class old new t end) (labels : (d : Declaration) → Contains end.declarations d → d.space ≡ space.Label → length d.path ≡ 1) where
   -- a declaration of a state
   module _ (s : State) (more : Extends s.declarations end.declarations) where
     abbrev There : ℕ → Entry → Type 0

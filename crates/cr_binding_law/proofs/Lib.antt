@@ -1,6 +1,7 @@
 mod Acting
 mod Answering
 mod Apart
+mod Consistent
 mod Growth
 mod Jumping
 mod Membering
@@ -9,4 +10,5 @@ mod Parsing
 mod Renamed
 mod Resolving
 mod Texts
+mod Units
 mod Walking

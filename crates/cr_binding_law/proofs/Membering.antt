@@ -1,24 +1,22 @@
 -- Actions on members read the same after a renaming.
-use Rattle.std.specs.Prelude.{◌≡◌, ℕ, suc, Bool, true, false, if◌then◌else◌, Option, Some, None, Result, Ok, Err, List, [], ◌∷◌, ◌++◌, drop, map, filter, ◌==◌, ◌<◌, zero, length, slice_index_or, Contains}
+use Rattle.std.specs.Prelude.{◌≡◌, ℕ, suc, Bool, true, false, if◌then◌else◌, Option, Some, None, Result, Ok, Err, List, [], ◌∷◌, ◌++◌, map, ◌<◌, zero, length, slice_index_or, Contains}
 use Rattle.std.proofs.Common.{refl, sym, ◌∙◌, ap, subst, arith}
 use Rattle.std.proofs.lemmas.List.Elements.{Contains-append_left, Contains-append_right}
 use Rattle.cr_base.specs.declared.Name.{Name}
 use Rattle.cr_base.specs.declared.cause.IllCause.{IllCause}
-use Rattle.cr_base.specs.declared.cause.IllCause.TheVariants as cause
 use Rattle.cr_types.specs.Types.{CType, Void, Arith, Mixed, Ptr, Arr, Fun, Rec}
-use Rattle.cr_typing.specs.Initialisers.{Braces, starts_from}
-use Rattle.cr_binding.specs.Source.{Source, name_at, text_at}
-use Rattle.cr_binding.specs.State.{Member, Written, Use, Selects, Target, Whole, Within, State}
-use Rattle.cr_binding.specs.Declaring.{failed, used}
+use Rattle.cr_typing.specs.Initialisers.{starts_from}
+use Rattle.cr_binding.specs.Source.{Source, name_at}
+use Rattle.cr_binding.specs.State.{Member, Selects, Target, Whole, Within, State}
 use Rattle.cr_binding.specs.Specifying.{specified_type, declared_type}
 use Rattle.cr_binding.specs.Tags.{record_of}
-use Rattle.cr_binding.specs.RecordMembers.{members_of, member_in, selected, selected_through, select, repeated, least_token, write_unless, write, named_member, add_member, brought_in, add_anonymous, splice}
-use Rattle.cr_binding.specs.Expressions.{operand, selecting, selection, is_arrow}
-use Rattle.cr_binding.specs.Initialising.{dotted, designated, designating, designator}
+use Rattle.cr_binding.specs.RecordMembers.{members_of, member_in, select, repeated, least_token, write_unless, write, named_member, add_member, brought_in, add_anonymous, splice}
+use Rattle.cr_binding.specs.Expressions.{operand, selecting, selection}
+use Rattle.cr_binding.specs.Initialising.{dotted, designating, designator}
 use Rattle.cr_binding.specs.ActionsStay.{IsRespelled}
-use Rattle.cr_binding.specs.MembersStay.{AreSpelled, AreDistinct, MeetNone}
+use Rattle.cr_binding.specs.MembersStay.{AreDistinct}
 use Rattle.cr_binding.specs.FreeUnits.{IsFreeUnit}
-use Rattle.cr_binding.specs.BindingGrows.{Extends, Grows}
+use Rattle.cr_binding.specs.BindingGrows.{Grows}
 use Rattle.cr_binding.specs.BindingStays.{AddsAlike, AddsPending, BringsAlike, SelectsAlike, DesignatesAlike}
 use Rattle.cr_binding_law.specs.Renaming.{IsRenamed, AreEntities}
 use Rattle.cr_binding_law.proofs.Growth.{last_there, still_there}

@@ -1,5 +1,5 @@
 -- Actions that look up a name, and those on tags, read the same after a renaming.
-use Rattle.std.specs.Prelude.{◌≡◌, ℕ, Bool, true, false, ◌&&◌, ◌||◌, eqb, if◌then◌else◌, Option, Some, None, List, [], ◌∷◌, ◌++◌, length, map, slice_get, Contains}
+use Rattle.std.specs.Prelude.{◌≡◌, ℕ, Bool, true, false, ◌&&◌, eqb, if◌then◌else◌, Option, Some, None, List, [], ◌∷◌, ◌++◌, length, slice_get, Contains}
 use Rattle.std.specs.List.{list_any}
 use Rattle.std.proofs.Common.{refl, sym, ◌∙◌, ap, subst}
 use Rattle.cr_base.specs.declared.Name.{Name}
@@ -10,14 +10,14 @@ use Rattle.cr_scope.specs.declared.Linkage.TheVariants as linkage
 use Rattle.cr_scope.specs.Declarations.{Entry, same_name}
 use Rattle.cr_scope.specs.Meaning.{IsLookup}
 use Rattle.cr_capture.proofs.Renamed.{found_at}
-use Rattle.cr_scope.specs.Redeclaration.{clashes, same_path, repeats}
+use Rattle.cr_scope.specs.Redeclaration.{same_path, repeats}
 use Rattle.cr_types.specs.Types.{CType}
 use Rattle.cr_binding.specs.Source.{Source, name_at, text_at, is_identifier, is_built_in}
-use Rattle.cr_binding.specs.State.{Declaration, Record, Use, LookedUp, IsBuiltIn, State}
-use Rattle.cr_binding.specs.Entities.{entry, is_tag, is_linked, is_typedef, is_tag_here, token_or, are_one}
+use Rattle.cr_binding.specs.State.{Declaration, Record, LookedUp, IsBuiltIn, State}
+use Rattle.cr_binding.specs.Entities.{entry, is_tag, is_linked, is_typedef, is_tag_here, token_or}
 use Rattle.cr_binding.specs.Declaring.{failed, used, declaration, declaration_at, meaning_here, looked_up, declare_plain}
 use Rattle.cr_binding.specs.Specifying.{based, named_type, typedef_name, specified_by, specifier_at, type_specifier}
-use Rattle.cr_binding.specs.Tags.{is_record_kind, is_union_kind, with_record, new_type, tag_here, declare_tag, tag_again, tag_alone, filling, completing, tag_definition, used_tag, tag_use}
+use Rattle.cr_binding.specs.Tags.{is_record_kind, is_union_kind, new_type, tag_here, declare_tag, tag_again, tag_alone, filling, completing, tag_definition, used_tag, tag_use}
 use Rattle.cr_binding.specs.Expressions.{push, built_in, is_value, denoting, identifier, is_function_name}
 use Rattle.cr_binding.specs.ActionsStay.{entries_of}
 use Rattle.cr_binding.specs.FreeUnits.{IsFreeUnit}

@@ -1,5 +1,5 @@
 -- The tokens of a renamed unit have the tree that they had.
-use Rattle.std.specs.Prelude.{◌≡◌, ◌⊎◌, ℕ, zero, suc, ◌+◌, Bool, true, false, cond, not, ◌&&◌, List, [], ◌∷◌, map, slice_index_or}
+use Rattle.std.specs.Prelude.{◌≡◌, ℕ, zero, suc, ◌+◌, Bool, true, false, cond, not, ◌&&◌, List, [], ◌∷◌, map, slice_index_or}
 use Rattle.std.proofs.Common.{refl, sym, ◌∙◌, ap, subst, inl, inr}
 use Rattle.cr_base.specs.declared.Name.{Name}
 use Rattle.cr_base.specs.declared.token.Tok.{Tok}
@@ -15,9 +15,9 @@ use Rattle.cr_grammar.specs.Grammar.{Row, rule}
 use Rattle.cr_grammar.specs.Spellings.{spelled}
 use Rattle.cr_ll.specs.declared.guards.Verdict.{Verdict}
 use Rattle.cr_ll.specs.declared.guards.Verdict.TheVariants.{Holds, Fails, Asks}
-use Rattle.cr_ll.specs.Guards.{Terminal, terminal, the_end, token_at, holds_if, asks_if, is_name, is_constant, is_string, is_end, is_spelled_kind, is_among, is_spelled, fits, meets, after_first, verdict, ask_at}
-use Rattle.cr_ll.specs.Derivation.{Item, Asked, Trees, none, token, action, node, ChosenBy, Chosen, Derives}
-use Rattle.cr_binding.specs.Source.{Source, no_token, token_of, name_at, text_at, is_identifier}
+use Rattle.cr_ll.specs.Guards.{Terminal, terminal, token_at, holds_if, asks_if, is_name, is_constant, is_string, is_end, is_spelled_kind, is_among, is_spelled, fits, meets, after_first, verdict}
+use Rattle.cr_ll.specs.Derivation.{Item, Trees, none, token, action, node, ChosenBy, Chosen, Derives}
+use Rattle.cr_binding.specs.Source.{Source, no_token, token_of, name_at}
 use Rattle.cr_binding.specs.WellFormed.{terminals_of}
 use Rattle.cr_binding_law.specs.Renaming.{text_of, IsRenamed}
 

@@ -1,33 +1,31 @@
 -- What is so of the declarations of a renamed unit, up to a place.
-use Rattle.std.specs.Prelude.{◌≡◌, ◌⊎◌, ℕ, ◌+◌, ◌≤◌, ◌<◌, suc, Bool, true, false, cond, ◌&&◌, ◌||◌, Option, Some, None, List, [], ◌∷◌, ◌++◌, length, map, take, slice_get, Contains}
+use Rattle.std.specs.Prelude.{◌≡◌, ℕ, ◌+◌, Bool, true, false, ◌&&◌, ◌||◌, Some, None, List, [], ◌∷◌, ◌++◌, length, map, slice_get, Contains}
 use Rattle.std.specs.List.{list_any}
-use Rattle.std.proofs.Common.{refl, sym, ◌∙◌, ap, subst, inl, inr, arith}
+use Rattle.std.proofs.Common.{refl, sym, ◌∙◌, ap, subst}
 use Rattle.std.proofs.lemmas.List.{map-append, length-map}
 use Rattle.cr_base.specs.declared.Name.{Name}
 use Rattle.cr_scope.specs.declared.Space.{Space}
 use Rattle.cr_scope.specs.declared.Space.TheVariants as space
 use Rattle.cr_scope.specs.declared.DeclNo.{DeclNo}
-use Rattle.cr_scope.specs.Declarations.{Entry, Flat, number, same_name}
+use Rattle.cr_scope.specs.Declarations.{Entry, number, same_name}
 use Rattle.cr_scope.specs.Meaning.{IsLookup, LookupMeans}
 use Rattle.cr_scope.specs.Linkage.{has_linkage}
 use Rattle.cr_scope.specs.Redeclaration.{clashes}
 use Rattle.cr_capture.specs.declared.Mention.TheVariants as mention
 use Rattle.cr_capture.specs.Renaming.{IsRenaming, IsFree, AreFree}
-use Rattle.cr_capture.proofs.Renamed.{numbered, found_at, lookup_one}
-use Rattle.cr_capture.proofs.KeptLinkage.{same_names, one_name}
+use Rattle.cr_capture.proofs.Renamed.{numbered, found_at}
+use Rattle.cr_capture.proofs.KeptLinkage.{same_names}
 use Rattle.cr_binding.specs.Source.{Source, name_at}
 use Rattle.cr_binding.specs.State.{Declaration, LookedUp, State}
 use Rattle.cr_binding.specs.Entities.{entry, is_linked, are_one}
 use Rattle.cr_binding.specs.Declaring.{meaning_here}
 use Rattle.cr_binding.specs.UnitConflicts.{scopes_at, entries_at}
-use Rattle.cr_binding.specs.ActionsStay
 use Rattle.cr_binding.specs.ActionsStay.{IsRespelled, declared_by, entries_of, scopes_of, scopes_with, KeepsMeaning, KeepsDeclaration, KeepsTakenLinkage, KeepsUnseenTag, KeepsTagHere, KeepsAskedName, KeepsDeniedAsk}
 use Rattle.cr_binding.specs.MembersStay.{KeepsSelection, KeepsNewMembers}
 use Rattle.cr_binding.specs.FreeUnits.{IsFreeUnit, MentionsAreFree, NewTagsAreFree, AsksAreFree, DeclarationsAreFree, AllAreFree}
 use Rattle.cr_binding.specs.BindingGrows.{Extends}
 use Rattle.cr_binding.specs.BindingStays.{MeansAlike, is_refused}
 use Rattle.cr_binding.proofs.Asking.{declaration_of}
-use Rattle.cr_binding.proofs.Renaming.{entry_found}
 use Rattle.cr_binding_law.specs.Renaming.{IsRenamed, AreEntities}
 use Rattle.cr_binding_law.proofs.Growth.{still_at, get_contains, front_taken, next_taken, shorter}
 

@@ -1,12 +1,11 @@
 -- Identifiers have the same first declarations after a renaming.
-use Rattle.std.specs.Prelude.{◌≡◌, ◌⊎◌, ℕ, zero, suc, Bool, true, false, cond, ◌&&◌, ◌||◌, ◌==◌, Option, Some, None, List, [], ◌∷◌, ◌++◌, map, flat_map, slice_get, slice_index_or, Contains}
+use Rattle.std.specs.Prelude.{◌≡◌, ◌⊎◌, ℕ, suc, Bool, true, false, cond, ◌&&◌, ◌||◌, ◌==◌, Option, Some, None, List, [], ◌∷◌, ◌++◌, map, flat_map, slice_get, Contains}
 use Rattle.std.specs.List.{find}
-use Rattle.std.proofs.Common.{refl, sym, ◌∙◌, ap, subst, inl, inr, arith}
+use Rattle.std.proofs.Common.{refl, sym, ◌∙◌, ap, inl, inr, arith}
 use Rattle.std.proofs.lemmas.Option.{slice_get-get_or}
 use Rattle.cr_base.specs.declared.Name.{Name}
 use Rattle.cr_scope.specs.declared.Space.TheVariants as space
 use Rattle.cr_scope.specs.Declarations.{same_name}
-use Rattle.cr_scope.specs.Linkage.{has_linkage}
 use Rattle.cr_scope.specs.Redeclaration.{same_path}
 use Rattle.cr_scope.proofs.Looked.{one_space}
 use Rattle.cr_scope.proofs.Paths.{same_path_true, and_both}

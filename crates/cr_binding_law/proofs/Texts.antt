@@ -6,16 +6,16 @@ use Rattle.cr_base.specs.declared.Name.{Name}
 use Rattle.cr_grammar.specs.declared.symbols.NonTerm.{NonTerm}
 use Rattle.cr_grammar.specs.declared.symbols.NonTerm.TheVariants as n
 use Rattle.cr_scope.specs.declared.Space.{Space}
-use Rattle.cr_scope.specs.Declarations.{Entry, is_prefix, same_space, same_name, depth, depth_seen, last_deepest, lookup}
+use Rattle.cr_scope.specs.Declarations.{is_prefix, same_space, same_name, depth, depth_seen, last_deepest}
 use Rattle.cr_types.specs.Types.{CType}
 use Rattle.cr_typing.specs.declared.expressions.Op.{Op}
 use Rattle.cr_typing.specs.declared.expressions.Op.TheVariants as op
 use Rattle.cr_typing.specs.ExpressionTypes.{binary_type, unary_type}
-use Rattle.cr_binding.specs.Source.{Source, token_of, name_at, text_at, is_built_in}
+use Rattle.cr_binding.specs.Source.{Source, name_at, text_at, is_built_in}
 use Rattle.cr_binding.specs.State.{Declaration, State}
 use Rattle.cr_binding.specs.Entities.{entry}
-use Rattle.cr_binding.specs.Specifying.{specifier_words, specifier_at}
-use Rattle.cr_binding.specs.Expressions.{binary_operators, unary_operators, postfix_operators, operated, on_two, on_one, second_type, postfix, is_offset, is_arrow, is_function_name}
+use Rattle.cr_binding.specs.Specifying.{specifier_words}
+use Rattle.cr_binding.specs.Expressions.{operated, on_two, on_one, second_type, postfix, is_arrow, is_function_name}
 use Rattle.cr_binding.specs.BindingStays.{AreWordsAlike, MeansAlike}
 use Rattle.cr_binding.proofs.Selecting.{both_unlike}
 use Rattle.cr_binding_law.specs.Renaming.{HasNoOwnMeaning, text_of, IsRenamed}

@@ -1,6 +1,6 @@
 -- A renamed unit is bound as it was.
-use Rattle.std.specs.Prelude.{◌≡◌, ℕ, Bool, true, false, if◌then◌else◌, Option, Some, None, unwrap_or, List, [], ◌∷◌}
-use Rattle.std.proofs.Common.{refl, sym, ◌∙◌, ap, subst}
+use Rattle.std.specs.Prelude.{◌≡◌, ℕ, Bool, true, false, Option, Some, None, unwrap_or, length, Contains}
+use Rattle.std.proofs.Common.{refl}
 use Rattle.cr_base.specs.declared.Kind.TheVariants as kind
 use Rattle.cr_base.specs.declared.Name.{Name}
 use Rattle.cr_grammar.specs.declared.symbols.NonTerm.{NonTerm}
@@ -11,7 +11,7 @@ use Rattle.cr_ll.specs.Derivation.{Trees, none, token, action, node}
 use Rattle.cr_scope.specs.declared.Space.TheVariants as space
 use Rattle.cr_types.specs.Types.{Void, Arith}
 use Rattle.cr_binding.specs.Source.{Source, text_at}
-use Rattle.cr_binding.specs.State.{State, start}
+use Rattle.cr_binding.specs.State.{Declaration, State, start}
 use Rattle.cr_binding.specs.Specifying.{declared_type}
 use Rattle.cr_binding.specs.Expressions.{is_arrow}
 use Rattle.cr_binding.specs.Actions.{passed, acted}
@@ -22,9 +22,8 @@ use Rattle.cr_binding.specs.FreeUnits.{IsFreeUnit}
 use Rattle.cr_binding.specs.BindingGrows.{Grows}
 use Rattle.cr_binding.specs.BindingStays.{IsAlike, Along, BindingStays}
 use Rattle.cr_binding.specs.SoundUnits.{IsDone, ActionsAreDone}
-use Rattle.cr_binding.proofs.Growing.{followed, acted_grows, jumps_grow}
+use Rattle.cr_binding.proofs.Growing.{followed, acted_grows}
 use Rattle.cr_binding_law.specs.Renaming.{IsRenamed, AreEntities}
-use Rattle.cr_binding_law.specs.UnitStays.{LabelsAreInFunctions}
 use Rattle.cr_binding_law.proofs.Renamed.{Laws}
 use Rattle.cr_binding_law.proofs.Texts.{words_alike, operates_alike, arrow_alike}
 use Rattle.cr_binding_law.proofs.Acting.{plain_alike, parameter_alike, named_alike}
@@ -46,7 +45,7 @@ along P Q each t m first (node k asks children next) s h = (
   along P Q each t m first next (unless_failed s (ended m k children s (walk t k None children (asked asks s)))) h.1,
 )
 
-module _ (law : Laws) (class : ℕ → Bool) (old new : Name) (t u : Source) (ren : IsRenamed class old new t u) (end : State) (ents : AreEntities class t end) (free : IsFreeUnit class old new t end) (distinct : AreDistinct t end.members) (labels : LabelsAreInFunctions end) where
+module _ (law : Laws) (class : ℕ → Bool) (old new : Name) (t u : Source) (ren : IsRenamed class old new t u) (end : State) (ents : AreEntities class t end) (free : IsFreeUnit class old new t end) (distinct : AreDistinct t end.members) (labels : (d : Declaration) → Contains end.declarations d → d.space ≡ space.Label → length d.path ≡ 1) where
   action_alike : (m : NonTerm) (first : ℕ) (x : Action) (s : State) → Grows s end → s.fault ≡ None → (acted t m first x s).fault ≡ None → Grows (acted t m first x s) end → IsAlike t u m first x s
   action_alike m first a.Spec s more sound h g = specifier_alike law class old new t u ren end ents free first s more h g
   action_alike m first a.Declare s more sound h g = named_alike law class old new t u ren end ents free s.pending.name s h g
@@ -81,7 +80,7 @@ module _ (law : Laws) (class : ℕ → Bool) (old new : Name) (t u : Source) (re
   done_alike m first x s d =
       action_alike m first x s (followed s (acted t m first x s) end (acted_grows t m first x s) d.stays) d.before d.after d.stays
 
-pub renamed_bound : (law : Laws) → BindingStays → ActionsAreDone → (class : ℕ → Bool) (old new : Name) (t u : Source) (tree : Trees) → IsRenamed class old new t u → (bound t tree).fault ≡ None → AreEntities class t (bound t tree) → IsFreeUnit class old new t (bound t tree) → AreDistinct t (bound t tree).members → LabelsAreInFunctions (bound t tree) → bound u tree ≡ bound t tree
+pub renamed_bound : (law : Laws) → BindingStays → ActionsAreDone → (class : ℕ → Bool) (old new : Name) (t u : Source) (tree : Trees) → IsRenamed class old new t u → (bound t tree).fault ≡ None → AreEntities class t (bound t tree) → IsFreeUnit class old new t (bound t tree) → AreDistinct t (bound t tree).members → ((d : Declaration) → Contains (bound t tree).declarations d → d.space ≡ space.Label → length d.path ≡ 1) → bound u tree ≡ bound t tree
 renamed_bound law stays done class old new t u tree ren sound ents free distinct labels =
     stays t u tree (words_alike class old new t u ren)
     (along (IsDone t (bound t tree)) (IsAlike t u) (done_alike law class old new t u ren (bound t tree) ents free distinct labels) t n.Unit None tree start (done t tree sound))

@@ -1,2 +1,3 @@
+pub mod ConsistentUnits
 pub mod Renaming
 pub mod UnitStays

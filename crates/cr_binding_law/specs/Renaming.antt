@@ -1,5 +1,5 @@
 -- A renaming of entities of a unit, from the name old to the name new.
-use Rattle.std.specs.Prelude.{◌≡◌, ◌≢◌, ℕ, Bool, true, false, cond, Option, Some, None, List, [], bytes_eq, slice_index_or, Contains}
+use Rattle.std.specs.Prelude.{◌≡◌, ◌≢◌, ℕ, Bool, true, false, cond, Some, None, List, [], bytes_eq, slice_index_or, Contains}
 use Rattle.std.specs.Map.{lookup}
 use Rattle.cr_base.specs.declared.token.Name.{Name}
 use Rattle.cr_binding.specs.Source.{Source, token_of, name_at, is_identifier, is_built_in}

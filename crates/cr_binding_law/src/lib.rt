@@ -1,6 +1,7 @@
 //! The law that a renaming keeps what the identifiers of a whole translation unit mean.
 #![tactic(auto)]
 
+ghost use Rattle.cr_binding_law.specs.ConsistentUnits.{UnitsAreConsistent};
 ghost use Rattle.cr_binding_law.specs.UnitStays.{RenamingKeepsUnits};
 
 use cr_binding::{
@@ -25,3 +26,12 @@ pub fn renaming_keeps_units()
     renaming_keeps_members();
     free_units_have_free_mentions();
 }
+
+/// The declarations and members of any unit are consistent (C11 6.2.1, 6.2.3, 6.7p3, 6.7.2.1): each declaration may stand
+/// beside those before it, typedef names are ordinary identifiers, labels belong to functions, and a name selects one
+/// member of a record.
+///
+/// It does nothing: its contract is the law.
+pub fn units_are_consistent()
+    ensures { UnitsAreConsistent }
+{}
