@@ -4,7 +4,7 @@ use Rattle.std.specs.List.{list_any}
 use Rattle.std.proofs.Common.{refl, sym, ◌∙◌, ap, subst, inl, inr, arith}
 use Rattle.std.proofs.lemmas.Bool.{eqb-true, eq-eqb}
 use Rattle.std.proofs.lemmas.List.{map-append}
-use Rattle.std.proofs.lemmas.List.Elements.{Contains-append_cases}
+use Rattle.std.proofs.lemmas.List.Elements.{Contains-append_cases, Contains-append_left, Contains-append_right}
 use Rattle.std.proofs.lemmas.Option.{slice_get_within}
 use Rattle.cr_base.specs.declared.Kind.{Kind}
 use Rattle.cr_base.specs.declared.Kind.TheVariants as kind
@@ -19,6 +19,7 @@ use Rattle.cr_scope.specs.declared.Space.TheVariants as space
 use Rattle.cr_scope.specs.declared.Linkage.{Linkage}
 use Rattle.cr_scope.specs.declared.Linkage.TheVariants as linkage
 use Rattle.cr_scope.specs.Declarations.{Entry, same_name}
+use Rattle.cr_scope.specs.Linkage.{has_linkage}
 use Rattle.cr_scope.specs.Redeclaration.{clashes, repeats}
 use Rattle.cr_capture.specs.Renaming.{AreAccepted}
 use Rattle.cr_capture.proofs.KeptLinkage.{same_names}
@@ -31,7 +32,7 @@ use Rattle.cr_typing.specs.Initialisers.{Braces, starts_from}
 use Rattle.cr_typing.specs.ExpressionTypes.{decayed}
 use Rattle.cr_binding.specs.Source.{Source, name_at, text_at, is_identifier, is_built_in}
 use Rattle.cr_binding.specs.State.{Declaration, Member, IsParameter, Target, Whole, Within, State, start}
-use Rattle.cr_binding.specs.Entities.{entry, token_or, is_typedef, is_typedef_kind}
+use Rattle.cr_binding.specs.Entities.{entry, token_or, is_linked, is_typedef, is_typedef_kind}
 use Rattle.cr_binding.specs.Declaring.{failed, used, declare, declaration, declaration_at, meaning_here, linkage_for, linkage_seen, is_internal, has_word, looked_up, declare_as, kind_of, declare_named, declare_plain, declare_parameter}
 use Rattle.cr_binding.specs.Specifying.{specifier_at, specified, announced, read_in, named_type, atomic_type, specified_by, type_specifier, specified_type, declared_type}
 use Rattle.cr_binding.specs.Tags.{is_record_kind, with_record, new_type, record_of, tag_here, declare_tag, tag_again, tag_alone, filling, completing, tag_definition, untagged, used_tag}
@@ -42,7 +43,7 @@ use Rattle.cr_binding.specs.Scoping.{entered_in, body_within, unless_failed, jum
 use Rattle.cr_binding.specs.Actions.{passed, acted}
 use Rattle.cr_binding.specs.Binding.{is_empty, ended_as, ended, asked, unless_refused, goes_on, walk}
 use Rattle.cr_binding.specs.MembersStay.{AreDistinct}
-use Rattle.cr_binding_law.specs.ConsistentUnits.{IsConsistent, UnitsAreConsistent}
+use Rattle.cr_binding_law.specs.ConsistentUnits.{IsWritten, IsConsistent, UnitsAreConsistent}
 
 -- ---- lists
 
@@ -115,14 +116,14 @@ passed_of p (y ∷ xs) x c = by (p y) refl c (λ d. passed_of p xs x d)
     by false q d more = let m : Contains xs x × (p x ≡ true) = more d in (in_tail y x xs m.0, m.1)
 
 -- a member that was brought in has the token of one that stands there
-brought_from : (r : ℕ) (ms : List Member) (m : Member) → Contains (map {A = Member} (λ m. record m { holder = r }) ms) m → (k : Member) × Contains ms k × (k.token ≡ m.token)
+brought_from : (r : ℕ) (ms : List Member) (m : Member) → Contains (map {A = Member} (λ m. record m { holder = r }) ms) m → (k : Member) × Contains ms k × (k.token ≡ m.token) × (k.own ≡ m.own)
 brought_from r [] m c = absurd (omega (arith, c.1))
 brought_from r (x ∷ ms) m c =
     by (head_or_tail (record x { holder = r }) m (map {A = Member} (λ m. record m { holder = r }) ms) c) (λ d. brought_from r ms m d)
   where
-    by : (record x { holder = r } ≡ m) ⊎ Contains (map {A = Member} (λ m. record m { holder = r }) ms) m → (Contains (map {A = Member} (λ m. record m { holder = r }) ms) m → (k : Member) × Contains ms k × (k.token ≡ m.token)) → (k : Member) × Contains (x ∷ ms) k × (k.token ≡ m.token)
-    by (inl e) more = (x, (0, omega arith, refl), ap (λ (z : Member). z.token) e)
-    by (inr d) more = let k : (k : Member) × Contains ms k × (k.token ≡ m.token) = more d in (k.0, in_tail x k.0 ms k.1, k.2)
+    by : (record x { holder = r } ≡ m) ⊎ Contains (map {A = Member} (λ m. record m { holder = r }) ms) m → (Contains (map {A = Member} (λ m. record m { holder = r }) ms) m → (k : Member) × Contains ms k × (k.token ≡ m.token) × (k.own ≡ m.own)) → (k : Member) × Contains (x ∷ ms) k × (k.token ≡ m.token) × (k.own ≡ m.own)
+    by (inl e) more = (x, (0, omega arith, refl), ap (λ (z : Member). z.token) e, ap (λ (z : Member). z.own) e)
+    by (inr d) more = let k : (k : Member) × Contains ms k × (k.token ≡ m.token) × (k.own ≡ m.own) = more d in (k.0, in_tail x k.0 ms k.1, k.2, k.3)
 
 brought_to : (r : ℕ) (ms : List Member) (m : Member) → Contains (map {A = Member} (λ m. record m { holder = r }) ms) m → m.holder ≡ r
 brought_to r [] m c = absurd (omega (arith, c.1))
@@ -149,8 +150,10 @@ module _ (t : Source) where
       record {
         accepted = subst (λ ds. AreAccepted (map (entry t) ds)) (sym d) c.accepted;
         typedefs = λ e there. c.typedefs e (subst (λ ds. Contains ds e) d there);
+        linked = λ e there. c.linked e (subst (λ ds. Contains ds e) d there);
         labels = λ e there. c.labels e (subst (λ ds. Contains ds e) d there);
         members = subst (AreDistinct t) (sym m) c.members;
+        written = λ k there. subst (λ ms. IsWritten ms k) (sym m) (c.written k (subst (λ ms. Contains ms k) m there));
         keyword = ap is_typedef_kind k ∙ c.keyword;
       }
 
@@ -163,7 +166,7 @@ module _ (t : Source) where
 
   -- ---- declarations
 
-  module _ (d : Declaration) (s : State) (plain : is_typedef d ≡ true → d.space ≡ space.Ordinary) (short : d.space ≡ space.Label → length d.path ≤ 1) (c : IsConsistent t s) where
+  module _ (d : Declaration) (s : State) (plain : is_typedef d ≡ true → d.space ≡ space.Ordinary) (linked : is_linked d ≡ true → (d.space ≡ space.Ordinary) × (is_typedef d ≡ false)) (short : d.space ≡ space.Label → length d.path ≤ 1) (c : IsConsistent t s) where
     added_accepted : list_any (clashes (entry t d)) (map (entry t) s.declarations) ≡ false → AreAccepted (map (entry t) s.declarations ++ entry t d ∷ [])
     added_accepted fine i j e g w at_e at_g =
         by (front_or_end (map (entry t) s.declarations) (entry t d) i e at_e) (front_or_end (map (entry t) s.declarations) (entry t d) j g at_g)
@@ -189,8 +192,10 @@ module _ (t : Source) where
         record {
           accepted = subst AreAccepted (sym (map-append (entry t) s.declarations (d ∷ []))) (added_accepted fine);
           typedefs = λ e there h. typedef e (Contains-append_cases s.declarations (d ∷ []) e there) h;
+          linked = λ e there h. has e (Contains-append_cases s.declarations (d ∷ []) e there) h;
           labels = λ e there h. label e (Contains-append_cases s.declarations (d ∷ []) e there) h;
           members = c.members;
+          written = c.written;
           keyword = c.keyword;
         }
       where
@@ -202,6 +207,12 @@ module _ (t : Source) where
         typedef e (inr there) h =
             let k : d ≡ e = only e there in
             ap (λ (x : Declaration). x.space) (sym k) ∙ plain (ap is_typedef k ∙ h)
+
+        has : (e : Declaration) → Contains s.declarations e ⊎ Contains (d ∷ []) e → is_linked e ≡ true → (e.space ≡ space.Ordinary) × (is_typedef e ≡ false)
+        has e (inl there) h = c.linked e there h
+        has e (inr there) h =
+            let k : d ≡ e = only e there in
+            subst (λ (x : Declaration). (x.space ≡ space.Ordinary) × (is_typedef x ≡ false)) k (linked (ap is_linked k ∙ h))
 
         label : (e : Declaration) → Contains s.declarations e ⊎ Contains (d ∷ []) e → e.space ≡ space.Label → length e.path ≤ 1
         label e (inl there) h = c.labels e there h
@@ -216,17 +227,32 @@ module _ (t : Source) where
         by true e = same s (failed cause.Redeclared d.token s) refl refl refl c
         by false e = added e
 
-  ordinary_stays : (k : Kind) (l : Linkage) (i : ℕ) (c : CType) (s x : State) → Stays x (declare t (declaration space.Ordinary k l i c s) x)
-  ordinary_stays k l i c s x k' =
-      declare_stays (declaration space.Ordinary k l i c s) x (λ h. refl) (λ h. absurd (differ h)) k'
+  ordinary_stays : (k : Kind) (l : Linkage) (i : ℕ) (c : CType) (s x : State) → (has_linkage l ≡ true → is_typedef_kind k ≡ false) → Stays x (declare t (declaration space.Ordinary k l i c s) x)
+  ordinary_stays k l i c s x has k' =
+      declare_stays (declaration space.Ordinary k l i c s) x (λ h. refl) (λ h. (refl, has h)) (λ h. absurd (differ h)) k'
     where
       differ : space.Ordinary ≡ space.Label → ⊥
       differ e = cc
 
+  -- what has no linkage
+  unlinked : {P : Type 0} → has_linkage linkage.None ≡ true → P
+  unlinked h = cc
+
+  kind_linked : (what : Kind) (e : Option Declaration) (s : State) → has_linkage (linkage_for t e what s) ≡ true → is_typedef_kind what ≡ false
+  kind_linked kind.Typedef e s h = unlinked h
+  kind_linked kind.Function e s h = refl
+  kind_linked kind.Object e s h = refl
+  kind_linked kind.Enumerator e s h = refl
+  kind_linked kind.Struct e s h = refl
+  kind_linked kind.Union e s h = refl
+  kind_linked kind.Enum e s h = refl
+  kind_linked kind.Member e s h = refl
+  kind_linked kind.Label e s h = refl
+
   as_stays : (k : Option ℕ) (what : Kind) (i : ℕ) (c : CType) (s : State) → Stays s (declare_as t k what i c s)
   as_stays k what i c s consistent =
       let l = linkage_for t (declaration_at s k) what s in
-      ordinary_stays what l i c s (linkage_seen l i k s) (if_stays (is_internal l && not (has_word w.Static s)) s (looked_up space.Ordinary i k s) s (same s _ refl refl refl) (itself s) consistent)
+      ordinary_stays what l i c s (linkage_seen l i k s) (kind_linked what (declaration_at s k) s) (if_stays (is_internal l && not (has_word w.Static s)) s (looked_up space.Ordinary i k s) s (same s _ refl refl refl) (itself s) consistent)
 
   named_stays : (i : Option ℕ) (c : CType) (s : State) → Stays s (declare_named t i c s)
   named_stays None c s k = k
@@ -236,11 +262,11 @@ module _ (t : Source) where
   parameter_stays None c s k = k
   parameter_stays (Some i) c s k =
       let x = used (IsParameter i) s in
-      ordinary_stays kind.Object linkage.None i (decayed c) x x (same s x refl refl refl k)
+      ordinary_stays kind.Object linkage.None i (decayed c) x x unlinked (same s x refl refl refl k)
 
   label_stays : (i : ℕ) (s : State) → Stays s (declare_plain t space.Label kind.Label i Void s)
   label_stays i s k =
-      declare_stays (declaration space.Label kind.Label linkage.None i Void s) s (λ h. absurd (differ h)) (λ h. short_front s.present) k
+      declare_stays (declaration space.Label kind.Label linkage.None i Void s) s (λ h. absurd (differ h)) unlinked (λ h. short_front s.present) k
     where
       differ : false ≡ true → ⊥
       differ e = cc
@@ -248,7 +274,7 @@ module _ (t : Source) where
   tag_stays : (i : ℕ) (c : CType) (s : State) → Stays s (declare_tag t i c s)
   tag_stays i c s k =
       let d = declaration space.Tag s.keyword linkage.None i c s in
-      same (declare t d s) _ refl refl refl (declare_stays d s (λ h. absurd (differ (sym h ∙ k.keyword))) (λ h. absurd (unlike h)) k)
+      same (declare t d s) _ refl refl refl (declare_stays d s (λ h. absurd (differ (sym h ∙ k.keyword))) unlinked (λ h. absurd (unlike h)) k)
     where
       differ : true ≡ false → ⊥
       differ e = cc
@@ -265,7 +291,7 @@ module _ (t : Source) where
 
   with_keyword : (k : Kind) (s : State) → is_typedef_kind k ≡ false → Stays s (record s { keyword = k })
   with_keyword k s h c =
-      record { accepted = c.accepted; typedefs = c.typedefs; labels = c.labels; members = c.members; keyword = h }
+      record { accepted = c.accepted; typedefs = c.typedefs; linked = c.linked; labels = c.labels; members = c.members; written = c.written; keyword = h }
 
   announced_stays : (x : Option SpecWord) (s : State) → Stays s (announced x s)
   announced_stays None s = itself s
@@ -353,8 +379,16 @@ module _ (t : Source) where
       by (inr a) (inl b) = absurd (meet m k a b holders names)
       by (inl a) (inr b) = absurd (meet k m b a (sym holders) (sym names))
 
-  write_stays : (r : ℕ) (c : CType) (more : List Member) (s : State) → ((m : Member) → Contains more m → m.holder ≡ r) → (IsConsistent t s → AreDistinct t more) → Stays s (write_unless (least_token (repeated t s r more)) r c more s)
-  write_stays r c more s held own k = by (least_token (repeated t s r more)) refl
+  longer_written : (ms more : List Member) (m : Member) → IsWritten ms m → IsWritten (ms ++ more) m
+  longer_written ms more m w =
+      record { itself = w.itself; there = Contains-append_left ms more w.itself w.there; own = w.own; same_record = w.same_record; same_token = w.same_token }
+
+  all_written : (ms more : List Member) (m : Member) → ((m : Member) → Contains ms m → IsWritten ms m) → ((m : Member) → Contains more m → IsWritten (ms ++ more) m) → Contains ms m ⊎ Contains more m → IsWritten (ms ++ more) m
+  all_written ms more m before new (inl there) = longer_written ms more m (before m there)
+  all_written ms more m before new (inr there) = new m there
+
+  write_stays : (r : ℕ) (c : CType) (more : List Member) (s : State) → ((m : Member) → Contains more m → m.holder ≡ r) → (IsConsistent t s → AreDistinct t more) → (IsConsistent t s → (m : Member) → Contains more m → IsWritten (s.members ++ more) m) → Stays s (write_unless (least_token (repeated t s r more)) r c more s)
+  write_stays r c more s held own written k = by (least_token (repeated t s r more)) refl
     where
       by : (o : Option ℕ) → least_token (repeated t s r more) ≡ o → IsConsistent t (write_unless o r c more s)
       by (Some i) e = same s (failed cause.Redeclared i s) refl refl refl k
@@ -362,8 +396,10 @@ module _ (t : Source) where
           record {
             accepted = k.accepted;
             typedefs = k.typedefs;
+            linked = k.linked;
             labels = k.labels;
             members = more_distinct r more s held (own k) (no_least (repeated t s r more) e) k.members;
+            written = λ m there. all_written s.members more m k.written (written k) (Contains-append_cases s.members more m there);
             keyword = k.keyword;
           }
 
@@ -377,22 +413,30 @@ module _ (t : Source) where
       let x = named_member r i c s in
       write_stays r c (x ∷ []) s (λ m in_m. ap (λ (z : Member). z.holder) (sym (only_one x m in_m)))
       (λ k m n in_m in_n h e. ap (λ (z : Member). z.token) (sym (only_one x m in_m) ∙ only_one x n in_n))
+      (λ k m in_m. record { itself = x; there = Contains-append_right s.members (x ∷ []) x (0, omega arith, refl); own = refl; same_record = ap (λ (z : Member). z.own) (only_one x m in_m); same_token = ap (λ (z : Member). z.token) (only_one x m in_m) })
 
   brought_distinct : (r q : ℕ) (s : State) → IsConsistent t s → AreDistinct t (brought_in r q s)
   brought_distinct r q s k m n in_m in_n holders names =
-      let a : (x : Member) × Contains (members_of s q) x × (x.token ≡ m.token) = brought_from r (members_of s q) m in_m in
-      let b : (x : Member) × Contains (members_of s q) x × (x.token ≡ n.token) = brought_from r (members_of s q) n in_n in
+      let a : (x : Member) × Contains (members_of s q) x × (x.token ≡ m.token) × (x.own ≡ m.own) = brought_from r (members_of s q) m in_m in
+      let b : (x : Member) × Contains (members_of s q) x × (x.token ≡ n.token) × (x.own ≡ n.own) = brought_from r (members_of s q) n in_n in
       let c : Contains s.members a.0 × ((a.0.holder == q) ≡ true) = passed_of (λ m. m.holder == q) s.members a.0 a.1 in
       let d : Contains s.members b.0 × ((b.0.holder == q) ≡ true) = passed_of (λ m. m.holder == q) s.members b.0 b.1 in
       sym a.2
       ∙ k.members a.0 b.0 c.0 d.0 (eqb-true a.0.holder q c.1 ∙ sym (eqb-true b.0.holder q d.1)) (ap (name_at t) a.2 ∙ names ∙ ap (name_at t) (sym b.2))
       ∙ b.2
 
+  brought_written : (r q : ℕ) (s : State) → IsConsistent t s → (m : Member) → Contains (brought_in r q s) m → IsWritten (s.members ++ brought_in r q s) m
+  brought_written r q s k m in_m =
+      let a : (x : Member) × Contains (members_of s q) x × (x.token ≡ m.token) × (x.own ≡ m.own) = brought_from r (members_of s q) m in_m in
+      let c : Contains s.members a.0 × ((a.0.holder == q) ≡ true) = passed_of (λ m. m.holder == q) s.members a.0 a.1 in
+      let w : IsWritten s.members a.0 = k.written a.0 c.0 in
+      record { itself = w.itself; there = Contains-append_left s.members (brought_in r q s) w.itself w.there; own = w.own; same_record = w.same_record ∙ a.3; same_token = w.same_token ∙ a.2 }
+
   anonymous_stays : (r q : Option ℕ) (c : CType) (s : State) → Stays s (add_anonymous t r q c s)
   anonymous_stays None q c s = itself s
   anonymous_stays (Some r) None c s = itself s
   anonymous_stays (Some r) (Some q) c s =
-      write_stays r c (brought_in r q s) s (λ m in_m. brought_to r (members_of s q) m in_m) (brought_distinct r q s)
+      write_stays r c (brought_in r q s) s (λ m in_m. brought_to r (members_of s q) m in_m) (brought_distinct r q s) (brought_written r q s)
 
   splice_stays : (s : State) → Stays s (splice t s)
   splice_stays s =
@@ -459,7 +503,7 @@ module _ (t : Source) where
   acted_stays m first a.Spec s = specifier_stays first s
   acted_stays m first a.Declare s = named_stays s.pending.name (declared_type s) s
   acted_stays m first a.Param s = parameter_stays s.pending.name (declared_type s) s
-  acted_stays m first a.Enumerator s = ordinary_stays kind.Enumerator linkage.None first Arith s s
+  acted_stays m first a.Enumerator s = ordinary_stays kind.Enumerator linkage.None first Arith s s unlinked
   acted_stays m first a.TagDef s = definition_stays s.last s
   acted_stays m first a.TagAlone s = again_stays (tag_here t s.last s) s.last s
   acted_stays m first a.TagUse s = let k = meaning_here t space.Tag s.last s in used_tag_stays k (declaration_at s k) s.last s
@@ -517,7 +561,9 @@ module _ (t : Source) where
       record {
         accepted = λ i j e g w at_e at_g. none_at e at_e;
         typedefs = λ d there h. nothing d there;
+        linked = λ d there h. nothing d there;
         labels = λ d there h. absurd (omega (arith, there.1));
+        written = λ m there. absurd (omega (arith, there.1));
         members = λ m k in_m in_k h e. absurd (omega (arith, in_m.1));
         keyword = refl;
       }

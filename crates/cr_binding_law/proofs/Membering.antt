@@ -1,5 +1,6 @@
 -- Actions on members read the same after a renaming.
-use Rattle.std.specs.Prelude.{◌≡◌, ℕ, suc, Bool, true, false, if◌then◌else◌, Option, Some, None, Result, Ok, Err, List, [], ◌∷◌, ◌++◌, map, ◌<◌, zero, length, slice_index_or, Contains}
+use Rattle.std.specs.Prelude.{◌≡◌, ◌==◌, ℕ, suc, Bool, true, false, if◌then◌else◌, Option, Some, None, Result, Ok, Err, List, [], ◌∷◌, ◌++◌, map, ◌<◌, zero, length, slice_index_or, Contains}
+use Rattle.std.specs.List.{find}
 use Rattle.std.proofs.Common.{refl, sym, ◌∙◌, ap, subst, arith}
 use Rattle.std.proofs.lemmas.List.Elements.{Contains-append_left, Contains-append_right}
 use Rattle.cr_base.specs.declared.Name.{Name}
@@ -10,7 +11,7 @@ use Rattle.cr_binding.specs.Source.{Source, name_at}
 use Rattle.cr_binding.specs.State.{Member, Selects, Target, Whole, Within, State}
 use Rattle.cr_binding.specs.Specifying.{specified_type, declared_type}
 use Rattle.cr_binding.specs.Tags.{record_of}
-use Rattle.cr_binding.specs.RecordMembers.{members_of, member_in, select, repeated, least_token, write_unless, write, named_member, add_member, brought_in, add_anonymous, splice}
+use Rattle.cr_binding.specs.RecordMembers.{is_named, is_complete, or_no_member, members_of, member_in, select, repeated, least_token, write_unless, write, named_member, add_member, brought_in, add_anonymous, splice}
 use Rattle.cr_binding.specs.Expressions.{operand, selecting, selection}
 use Rattle.cr_binding.specs.Initialising.{dotted, designating, designator}
 use Rattle.cr_binding.specs.ActionsStay.{IsRespelled}
@@ -18,6 +19,7 @@ use Rattle.cr_binding.specs.MembersStay.{AreDistinct}
 use Rattle.cr_binding.specs.FreeUnits.{IsFreeUnit}
 use Rattle.cr_binding.specs.BindingGrows.{Grows}
 use Rattle.cr_binding.specs.BindingStays.{AddsAlike, AddsPending, BringsAlike, SelectsAlike, DesignatesAlike}
+use Rattle.cr_binding.proofs.Selecting.{found_among}
 use Rattle.cr_binding_law.specs.Renaming.{IsRenamed, AreEntities}
 use Rattle.cr_binding_law.proofs.Growth.{last_there, still_there}
 use Rattle.cr_binding_law.proofs.Renamed.{Laws, respelled}
@@ -88,11 +90,20 @@ module _ (law : Laws) (class : ℕ → Bool) (old new : Name) (t u : Source) (re
 
   -- ---- selecting
 
-  module _ (s : State) (more : Grows s end) (i : ℕ) (m : Member) (goes : class i ≡ class m.token) where
+  module _ (s : State) (more : Grows s end) (i : ℕ) (m : Member) (goes : Contains s.members m → class i ≡ class m.token) where
+    member_there : (r : ℕ) → (b : Bool) → or_no_member (if b then find (is_named t (name_at t i)) (members_of s r) else None) ≡ Ok m → Contains s.members m
+    member_there r false h = cc
+    member_there r true h =
+        (found_among (is_named t (name_at t i)) (λ n. n.holder == r) s.members m (was_found (find (is_named t (name_at t i)) (members_of s r)) h)).0
+      where
+        was_found : (o : Option Member) → or_no_member o ≡ Ok m → o ≡ Some m
+        was_found None k = cc
+        was_found (Some n) k = cc
+
     member_kept : (r : ℕ) → member_in t s r (name_at t i) ≡ Ok m → member_in u s r (name_at u i) ≡ member_in t s r (name_at t i)
     member_kept r h =
         law.selection class old new t u s r i m spelling ren.spelled (λ m n cm cn. distinct m n (still_there s.members end.members m more.members cm) (still_there s.members end.members n more.members cn))
-        (λ m n cm cn. free.members m n (still_there s.members end.members m more.members cm) (still_there s.members end.members n more.members cn)) h goes
+        (λ m n cm cn. free.members m n (still_there s.members end.members m more.members cm) (still_there s.members end.members n more.members cn)) h (goes (member_there r (is_complete s r) h))
         ∙ sym h
 
     select_kept : (c : CType) (arrow : Bool) → select t s arrow (name_at t i) c ≡ Ok m → (other : Bool) → select u s other (name_at u i) c ≡ select t s other (name_at t i) c
@@ -154,7 +165,7 @@ module _ (law : Laws) (class : ℕ → Bool) (old new : Name) (t u : Source) (re
       by : (x : Result Member IllCause) → select t s arrow (name_at t i) (operand s) ≡ x → (selecting x i s).fault ≡ None → Grows (selecting x i s) end → SelectsAlike t u s i
       by (Err c) e h g = cc
       by (Ok m) e h g =
-          select_kept s more i m (ents.uses (Selects i m.token) (last_there s.uses end.uses (Selects i m.token) g.uses)) (operand s) arrow e
+          select_kept s more i m (λ c. ents.uses (Selects i m.token) (last_there s.uses end.uses (Selects i m.token) g.uses) m (still_there s.members end.members m more.members c) refl) (operand s) arrow e
 
   pub designates_alike : (x : Target) (i : ℕ) (s : State) → Grows s end → (designator x t i s).fault ≡ None → Grows (designator x t i s) end → DesignatesAlike t u s x i
   designates_alike (Whole c) i s more h g = tt
@@ -163,4 +174,4 @@ module _ (law : Laws) (class : ℕ → Bool) (old new : Name) (t u : Source) (re
       by : (x : Result Member IllCause) → dotted t s (name_at t i) (starts_from b) ≡ x → (designating x b i s).fault ≡ None → Grows (designating x b i s) end → dotted u s (name_at u i) (starts_from b) ≡ dotted t s (name_at t i) (starts_from b)
       by (Err c) e h g = cc
       by (Ok m) e h g =
-          dotted_kept s more i m (ents.uses (Selects i m.token) (last_there s.uses end.uses (Selects i m.token) g.uses)) (starts_from b) e
+          dotted_kept s more i m (λ c. ents.uses (Selects i m.token) (last_there s.uses end.uses (Selects i m.token) g.uses) m (still_there s.members end.members m more.members c) refl) (starts_from b) e

@@ -1,3 +1,4 @@
 pub mod ConsistentUnits
 pub mod Renaming
+pub mod RenamingKeys
 pub mod UnitStays

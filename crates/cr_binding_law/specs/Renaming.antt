@@ -3,7 +3,7 @@ use Rattle.std.specs.Prelude.{◌≡◌, ◌≢◌, ℕ, Bool, true, false, cond
 use Rattle.std.specs.Map.{lookup}
 use Rattle.cr_base.specs.declared.token.Name.{Name}
 use Rattle.cr_binding.specs.Source.{Source, token_of, name_at, is_identifier, is_built_in}
-use Rattle.cr_binding.specs.State.{Declaration, Use, LookedUp, GoesTo, Selects, IsBuiltIn, State}
+use Rattle.cr_binding.specs.State.{Declaration, Member, Use, LookedUp, GoesTo, Selects, IsBuiltIn, State}
 use Rattle.cr_binding.specs.Entities.{are_one}
 use Rattle.cr_binding.specs.Declaring.{declaration_at}
 use Rattle.cr_binding.specs.Specifying.{specifier_words}
@@ -41,7 +41,7 @@ abbrev pub GoesWith : (ℕ → Bool) → State → Use → Type 0
 GoesWith class s (LookedUp sp i path before denoted) =
     (d : Declaration) → declaration_at s denoted ≡ Some d → class i ≡ class d.token
 GoesWith class s (GoesTo i label) = (d : Declaration) → declaration_at s (Some label) ≡ Some d → class i ≡ class d.token
-GoesWith class s (Selects i member) = class i ≡ class member
+GoesWith class s (Selects i member) = (m : Member) → Contains s.members m → m.token ≡ member → class i ≡ class m.token
 GoesWith class s (IsBuiltIn i) = class i ≡ false
 GoesWith class s _ = Unit {0}
 
