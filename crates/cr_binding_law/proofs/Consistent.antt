@@ -60,11 +60,11 @@ none_any p (y ∷ xs) (suc j) x h at = none_any p xs j x (rest (p y) (list_any p
     rest true b h = cc
     rest false b h = h
 
-in_tail : {A : Type 0} (y x : A) (xs : List A) → Contains xs x → Contains (y ∷ xs) x
+pub in_tail : {A : Type 0} (y x : A) (xs : List A) → Contains xs x → Contains (y ∷ xs) x
 in_tail y x xs c = (suc c.0, omega (arith, c.1), c.2)
 
 -- an element is the first one or stands behind it
-head_or_tail : {A : Type 0} (y x : A) (xs : List A) → Contains (y ∷ xs) x → (y ≡ x) ⊎ Contains xs x
+pub head_or_tail : {A : Type 0} (y x : A) (xs : List A) → Contains (y ∷ xs) x → (y ≡ x) ⊎ Contains xs x
 head_or_tail y x xs c = by c.0 c.1 c.2
   where
     by : (k : ℕ) → k < length (y ∷ xs) → slice_index_or (y ∷ xs) k x ≡ x → (y ≡ x) ⊎ Contains xs x
@@ -87,7 +87,7 @@ none_any_of p (y ∷ xs) x h c = by (head_or_tail y x xs c) (λ d. none_any_of p
     by (inl e) more = ap p (sym e) ∙ first (p y) (list_any p xs) h
     by (inr d) more = more d
 
-passing : {A : Type 0} (p : A → Bool) (xs : List A) (x : A) → Contains xs x → p x ≡ true → Contains (filter p xs) x
+pub passing : {A : Type 0} (p : A → Bool) (xs : List A) (x : A) → Contains xs x → p x ≡ true → Contains (filter p xs) x
 passing p [] x c h = absurd (omega (arith, c.1))
 passing p (y ∷ xs) x c h = by (head_or_tail y x xs c) (p y) refl (λ d. passing p xs x d h)
   where
@@ -104,7 +104,7 @@ none_pass p xs x h c = by (p x) refl
     by false e = refl
     by true e = let k : Contains [] x = subst (λ l. Contains l x) h (passing p xs x c e) in absurd (omega (arith, k.1))
 
-passed_of : {A : Type 0} (p : A → Bool) (xs : List A) (x : A) → Contains (filter p xs) x → Contains xs x × (p x ≡ true)
+pub passed_of : {A : Type 0} (p : A → Bool) (xs : List A) (x : A) → Contains (filter p xs) x → Contains xs x × (p x ≡ true)
 passed_of p [] x c = absurd (omega (arith, c.1))
 passed_of p (y ∷ xs) x c = by (p y) refl c (λ d. passed_of p xs x d)
   where

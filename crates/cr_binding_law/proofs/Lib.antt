@@ -4,6 +4,7 @@ mod Apart
 mod Consistent
 mod Growth
 mod Jumping
+mod Keyed
 mod Membering
 mod Mentioning
 mod Parsing

@@ -22,13 +22,13 @@ use Rattle.cr_binding_law.proofs.Growth.{get_contains}
 use Rattle.cr_binding_law.proofs.Renamed.{Laws}
 use Rattle.cr_binding_law.proofs.Apart.{Meet, apart}
 
-same_find : (p q : Declaration → Bool) (xs : List Declaration) → ((n : Declaration) → Contains xs n → q n ≡ p n) → find q xs ≡ find p xs
+pub same_find : (p q : Declaration → Bool) (xs : List Declaration) → ((n : Declaration) → Contains xs n → q n ≡ p n) → find q xs ≡ find p xs
 same_find p q [] each = refl
 same_find p q (x ∷ xs) each =
     ap (λ b. cond b (Some x) (find q xs)) (each x (0, omega arith, refl))
     ∙ ap (λ o. cond (p x) (Some x) o) (same_find p q xs (λ n c. each n (suc c.0, omega (arith, c.1), c.2)))
 
-either : (a b : Bool) → (a || b) ≡ true → (a ≡ true) ⊎ (b ≡ true)
+pub either : (a b : Bool) → (a || b) ≡ true → (a ≡ true) ⊎ (b ≡ true)
 either true b h = inl refl
 either false b h = inr h
 
@@ -39,7 +39,7 @@ and_alike true false false h = refl
 and_alike false true false h = refl
 and_alike false false false h = refl
 
-get_at : (xs : List Declaration) (x : Declaration) → (c : Contains xs x) → slice_get xs c.0 ≡ Some x
+pub get_at : (xs : List Declaration) (x : Declaration) → (c : Contains xs x) → slice_get xs c.0 ≡ Some x
 get_at xs x c = slice_get-get_or xs c.0 x c.1 ∙ ap Some c.2
 
 abbrev with_origin : ℕ → Option ℕ → ℕ × Option ℕ

@@ -15,6 +15,7 @@ use Rattle.cr_binding_law.specs.ConsistentUnits.{IsConsistent}
 use Rattle.cr_binding_law.specs.UnitStays.{LabelsAreInFunctions, RenamingKeepsUnits}
 use Rattle.cr_binding_law.proofs.Answering.{answers_alike}
 use Rattle.cr_binding_law.proofs.Consistent.{units_are_consistent}
+use Rattle.cr_binding_law.specs.RenamingKeys.{KeysAreEntities, KeysAreFree, RenamingOfKeysKeepsUnits}
 use Rattle.cr_binding_law.proofs.Parsing.{renamed_derives}
 use Rattle.cr_binding_law.proofs.Renamed.{Laws}
 use Rattle.cr_binding_law.proofs.Resolving.{resolution_alike}
@@ -46,3 +47,7 @@ renaming_keeps_units law stays done class old new t u tree ren well ents free la
     same : bound u tree ≡ bound t tree
     same =
         renamed_bound law stays done class old new t u tree ren well.sound ents free c.members (label_lengths t (bound t tree) c labels)
+
+pub renaming_of_keys_keeps_units : RenamingKeepsUnits → KeysAreEntities → KeysAreFree → RenamingOfKeysKeepsUnits
+renaming_of_keys_keeps_units keeps entities free keys class old new unit_number t u tree ren well of none labels used =
+    keeps class old new t u tree ren well (entities keys class unit_number t tree of) (free keys class old new unit_number t tree of ren.spelled none) labels used

@@ -2,6 +2,7 @@
 #![tactic(auto)]
 
 ghost use Rattle.cr_binding_law.specs.ConsistentUnits.{UnitsAreConsistent};
+ghost use Rattle.cr_binding_law.specs.RenamingKeys.{KeysAreEntities, KeysAreFree, RenamingOfKeysKeepsUnits};
 ghost use Rattle.cr_binding_law.specs.UnitStays.{RenamingKeepsUnits};
 
 use cr_binding::{
@@ -35,3 +36,23 @@ pub fn renaming_keeps_units()
 pub fn units_are_consistent()
     ensures { UnitsAreConsistent }
 {}
+
+/// The tokens that mean an entity of some keys are of whole entities; where the facts of a unit tell no conflict of one of
+/// these keys, none of its mentions has one.
+///
+/// It does nothing: its contract is the law.
+pub fn keys_are_whole_entities()
+    ensures entities { KeysAreEntities }
+    ensures free { KeysAreFree }
+{}
+
+/// Where the entities of some keys get a new name, and the facts of a well-formed unit tell no conflict of one of these
+/// keys, the unit is well-formed with the same tree, and each identifier means what it meant.
+///
+/// It does nothing: its contract is the law.
+pub fn renaming_of_keys_keeps_units()
+    ensures { RenamingOfKeysKeepsUnits }
+{
+    renaming_keeps_units();
+    keys_are_whole_entities();
+}
