@@ -1,5 +1,5 @@
 pub mod Asking
-mod Done
+pub mod Done
 mod FactRows
 mod Free
 pub mod Growing

@@ -10,6 +10,7 @@ mod Mentioning
 mod Parsing
 mod Renamed
 mod Resolving
+mod Scoped
 mod Texts
 mod Units
 mod Walking
