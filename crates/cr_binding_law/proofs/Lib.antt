@@ -1,6 +1,7 @@
 mod Acting
 mod Answering
 mod Apart
+mod Balanced
 mod Consistent
 mod Growth
 mod Jumping

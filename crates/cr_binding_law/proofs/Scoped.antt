@@ -1,51 +1,40 @@
 -- What actions do to the present scope, to labels and to asks.
-use Rattle.std.specs.Prelude.{◌≡◌, ◌⊎◌, ℕ, zero, suc, ◌+◌, ◌<◌, ◌≤◌, Bool, true, false, not, ◌&&◌, ◌||◌, ◌==◌, if◌then◌else◌, Option, Some, None, is_some, unwrap_or, Result, Ok, Err, List, [], ◌∷◌, ◌++◌, map, filter, length, take, ◌-◌, eqb, slice_get, slice_index_or, Contains}
+use Rattle.std.specs.Prelude.{◌≡◌, ◌⊎◌, ℕ, ◌+◌, Bool, true, false, not, ◌&&◌, if◌then◌else◌, Option, Some, None, is_some, Result, Ok, Err, List, [], ◌∷◌, ◌++◌, map, length, take, ◌-◌, eqb, Contains}
 use Rattle.std.specs.List.{list_any}
-use Rattle.std.proofs.Common.{refl, sym, ◌∙◌, ap, subst, inl, inr, arith}
-use Rattle.std.proofs.lemmas.Bool.{eqb-true, eq-eqb}
-use Rattle.std.proofs.lemmas.List.{map-append}
-use Rattle.std.proofs.lemmas.List.Elements.{Contains-append_cases, Contains-append_left, Contains-append_right}
-use Rattle.std.proofs.lemmas.Option.{slice_get_within}
+use Rattle.std.proofs.Common.{refl, ◌∙◌, ap, subst, inl, inr, arith}
+use Rattle.std.proofs.lemmas.List.Elements.{Contains-append_cases}
 use Rattle.cr_base.specs.declared.Kind.{Kind}
 use Rattle.cr_base.specs.declared.Kind.TheVariants as kind
 use Rattle.cr_base.specs.declared.cause.IllCause.{IllCause}
-use Rattle.cr_base.specs.declared.cause.IllCause.TheVariants as cause
 use Rattle.cr_grammar.specs.declared.symbols.NonTerm.{NonTerm}
 use Rattle.cr_grammar.specs.declared.symbols.NonTerm.TheVariants as n
 use Rattle.cr_grammar.specs.declared.symbols.Action.{Action}
 use Rattle.cr_grammar.specs.declared.symbols.Action.TheVariants as a
-use Rattle.cr_ll.specs.Derivation.{Item, Passed, Due, Asked, Trees, none, token, action, node}
-use Rattle.cr_scope.specs.declared.Space.{Space}
+use Rattle.cr_ll.specs.Derivation.{Trees}
 use Rattle.cr_scope.specs.declared.Space.TheVariants as space
-use Rattle.cr_scope.specs.declared.Linkage.{Linkage}
 use Rattle.cr_scope.specs.declared.Linkage.TheVariants as linkage
-use Rattle.cr_scope.specs.Declarations.{Entry, same_name}
-use Rattle.cr_scope.specs.Linkage.{has_linkage, is_file_scope}
+use Rattle.cr_scope.specs.Linkage.{is_file_scope}
 use Rattle.cr_scope.specs.Redeclaration.{clashes, repeats}
-use Rattle.cr_capture.specs.Renaming.{AreAccepted}
-use Rattle.cr_capture.proofs.KeptLinkage.{same_names}
-use Rattle.cr_capture.proofs.KeptTag.{front_or_end}
 use Rattle.cr_types.specs.Types.{CType, Void, Arith}
 use Rattle.cr_decl.specs.declared.SpecWord.{SpecWord}
 use Rattle.cr_decl.specs.declared.SpecWord.TheVariants as w
 use Rattle.cr_decl.specs.Specifiers.{may_follow, is_permitted}
-use Rattle.cr_binding.specs.Scoping.{next_scope, left}
+use Rattle.cr_binding.specs.Scoping.{next_scope}
 use Rattle.cr_typing.specs.Initialisers.{Braces, starts_from}
 use Rattle.cr_typing.specs.ExpressionTypes.{decayed}
 use Rattle.cr_binding.specs.Source.{Source, name_at, text_at, is_identifier, is_built_in}
-use Rattle.cr_binding.specs.State.{nothing_pending, Declaration, Member, Use, LookedUp, GoesTo, Selects, IsBuiltIn, WasAsked, IsParameter, Target, Whole, Within, State, start}
-use Rattle.cr_binding.specs.Entities.{entry, token_or, is_linked, is_typedef, is_typedef_kind}
+use Rattle.cr_binding.specs.State.{Declaration, Member, Use, Selects, IsBuiltIn, WasAsked, IsParameter, Target, Whole, Within, State}
+use Rattle.cr_binding.specs.Entities.{entry, token_or}
 use Rattle.cr_binding.specs.Declaring.{failed, used, declare, declaration, declaration_at, meaning_here, linkage_for, linkage_seen, is_internal, has_word, looked_up, declare_as, kind_of, declare_named, declare_plain, declare_parameter}
 use Rattle.cr_binding.specs.Specifying.{based, specifier_at, specified, announced, read_in, named_type, atomic_type, specified_by, type_specifier, specified_type, declared_type}
 use Rattle.cr_binding.specs.Tags.{is_record_kind, with_record, new_type, record_of, tag_here, declare_tag, tag_again, tag_alone, filling, completing, tag_definition, untagged, used_tag}
-use Rattle.cr_binding.specs.RecordMembers.{is_named, members_of, least_token, repeated, select, write_unless, named_member, add_member, brought_in, add_anonymous, splice, end_record}
+use Rattle.cr_binding.specs.RecordMembers.{least_token, repeated, select, write_unless, named_member, add_member, brought_in, add_anonymous, splice, end_record}
 use Rattle.cr_binding.specs.Expressions.{push, built_in, operand, is_function_name, is_value, denoting, identifier, selecting, is_arrow}
 use Rattle.cr_binding.specs.Initialising.{dotted, designating, designator, initialiser}
 use Rattle.cr_binding.specs.Scoping.{entered_in, body_within, unless_failed, jump_to, all_jumps, body_ended}
 use Rattle.cr_binding.specs.Actions.{passed, acted}
-use Rattle.cr_binding.specs.Binding.{is_empty, ended_as, ended, asked, unless_refused, goes_on, walk}
-use Rattle.cr_binding.specs.MembersStay.{AreDistinct}
-use Rattle.cr_binding_law.specs.UnitStays.{LabelsAreInFunctions}
+use Rattle.cr_binding.specs.Binding.{is_empty, ended_as}
+use Rattle.cr_binding_law.specs.ConsistentUnits.{LabelsAreInFunctions}
 use Rattle.cr_binding_law.proofs.Consistent.{head_or_tail}
 
 -- an action that asks nothing leaves the asks
@@ -104,9 +93,9 @@ used_flat u s h =
     by : (i : ℕ) (path : List ℕ) (before : ℕ) (answer : Bool) → Contains s.uses (WasAsked i path before answer) ⊎ Contains (u ∷ []) (WasAsked i path before answer) → Contains s.uses (WasAsked i path before answer)
     by i path before answer (inl there) = there
     by i path before answer (inr there) = elim (head_or_tail u (WasAsked i path before answer) [] there) [
-        | inl e ↦ (let no : ⊥ = subst IsNoAsk e h in absurd no)
-        | inr k ↦ absurd (omega (arith, k.1))
-      ]
+      | inl e ↦ (let no : ⊥ = subst IsNoAsk e h in absurd no)
+      | inr k ↦ absurd (omega (arith, k.1))
+    ]
 
 -- a declaration that is no label, or a label in a function
 added_flat : (d : Declaration) (s : State) → (d.space ≡ space.Label → is_file_scope d.path ≡ false) → Flat s (record s { declarations = s.declarations ++ d ∷ [] })
@@ -121,9 +110,9 @@ added_flat d s fine =
     by : LabelsAreInFunctions s → (e : Declaration) → e.space ≡ space.Label → Contains s.declarations e ⊎ Contains (d ∷ []) e → is_file_scope e.path ≡ false
     by l e h (inl there) = l e there h
     by l e h (inr there) = elim (head_or_tail d e [] there) [
-        | inl k ↦ subst (λ (x : Declaration). is_file_scope x.path ≡ false) k (fine (ap (λ (x : Declaration). x.space) k ∙ h))
-        | inr k ↦ absurd (omega (arith, k.1))
-      ]
+      | inl k ↦ subst (λ (x : Declaration). is_file_scope x.path ≡ false) k (fine (ap (λ (x : Declaration). x.space) k ∙ h))
+      | inr k ↦ absurd (omega (arith, k.1))
+    ]
 
 -- what an action does to scopes, labels and the name that is declared
 pub data Effect : Type 0 where

@@ -11,9 +11,10 @@ use Rattle.cr_binding.specs.BindingStays.{BindingStays}
 use Rattle.cr_binding.specs.SoundUnits.{ActionsAreDone}
 use Rattle.cr_binding.specs.Resolution.{resolution}
 use Rattle.cr_binding.specs.WellFormed.{AreAnswered}
-use Rattle.cr_binding_law.specs.ConsistentUnits.{IsConsistent}
-use Rattle.cr_binding_law.specs.UnitStays.{LabelsAreInFunctions, RenamingKeepsUnits}
+use Rattle.cr_binding_law.specs.ConsistentUnits.{IsConsistent, LabelsAreInFunctions}
+use Rattle.cr_binding_law.specs.UnitStays.{RenamingKeepsUnits}
 use Rattle.cr_binding_law.proofs.Answering.{answers_alike}
+use Rattle.cr_binding_law.proofs.Balanced.{labels_stand_in_functions}
 use Rattle.cr_binding_law.proofs.Consistent.{units_are_consistent}
 use Rattle.cr_binding_law.specs.RenamingKeys.{KeysAreEntities, KeysAreFree, RenamingOfKeysKeepsUnits}
 use Rattle.cr_binding_law.proofs.Parsing.{renamed_derives}
@@ -29,7 +30,7 @@ label_lengths : (t : Source) (s : State) → IsConsistent t s → LabelsAreInFun
 label_lengths t s c labels d there h = just_one d.path (labels d there h) (c.labels d there h)
 
 pub renaming_keeps_units : Laws → BindingStays → ActionsAreDone → RenamingKeepsUnits
-renaming_keeps_units law stays done class old new t u tree ren well ents free labels used =
+renaming_keeps_units law stays done class old new t u tree ren well ents free used =
     record {
       well_formed = record {
         spans = well.spans;
@@ -46,8 +47,8 @@ renaming_keeps_units law stays done class old new t u tree ren well ents free la
 
     same : bound u tree ≡ bound t tree
     same =
-        renamed_bound law stays done class old new t u tree ren well.sound ents free c.members (label_lengths t (bound t tree) c labels)
+        renamed_bound law stays done class old new t u tree ren well.sound ents free c.members (label_lengths t (bound t tree) c (labels_stand_in_functions t tree well))
 
 pub renaming_of_keys_keeps_units : RenamingKeepsUnits → KeysAreEntities → KeysAreFree → RenamingOfKeysKeepsUnits
-renaming_of_keys_keeps_units keeps entities free keys class old new unit_number t u tree ren well of none labels used =
-    keeps class old new t u tree ren well (entities keys class unit_number t tree of) (free keys class old new unit_number t tree of ren.spelled none) labels used
+renaming_of_keys_keeps_units keeps entities free keys class old new unit_number t u tree ren well of none used =
+    keeps class old new t u tree ren well (entities keys class unit_number t tree of) (free keys class old new unit_number t tree of ren.spelled none) used

@@ -2,11 +2,13 @@
 use Rattle.std.specs.Prelude.{◌≡◌, List, ◌≤◌, true, false, length, map, Contains}
 use Rattle.cr_ll.specs.Derivation.{Trees}
 use Rattle.cr_scope.specs.declared.Space.TheVariants as space
+use Rattle.cr_scope.specs.Linkage.{is_file_scope}
 use Rattle.cr_capture.specs.Renaming.{AreAccepted}
 use Rattle.cr_binding.specs.Source.{Source}
 use Rattle.cr_binding.specs.State.{Declaration, Member, State}
 use Rattle.cr_binding.specs.Entities.{entry, is_linked, is_typedef, is_typedef_kind}
 use Rattle.cr_binding.specs.Binding.{bound}
+use Rattle.cr_binding.specs.WellFormed.{IsWellFormed}
 use Rattle.cr_binding.specs.MembersStay.{AreDistinct}
 
 -- the member that is written in its record at the token of m, where m selects too
@@ -35,3 +37,12 @@ pub record IsConsistent (t : Source) (s : State) : Type 0 where
 
 abbrev pub UnitsAreConsistent : Type 0
 UnitsAreConsistent = (t : Source) (tree : Trees) → IsConsistent t (bound t tree)
+
+-- no label stands at file scope (6.8)
+abbrev pub LabelsAreInFunctions : State → Type 0
+LabelsAreInFunctions s =
+    (d : Declaration) → Contains s.declarations d → d.space ≡ space.Label → is_file_scope d.path ≡ false
+
+-- The grammar has labels in functions alone (6.8.1, 6.9.1).
+abbrev pub LabelsStandInFunctions : Type 0
+LabelsStandInFunctions = (t : Source) (tree : Trees) → IsWellFormed t tree → LabelsAreInFunctions (bound t tree)

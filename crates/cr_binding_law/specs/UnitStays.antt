@@ -3,7 +3,6 @@ use Rattle.std.specs.Prelude.{◌≡◌, ◌⊎◌, ℕ, Bool, false, Some, List
 use Rattle.cr_base.specs.declared.token.Name.{Name}
 use Rattle.cr_ll.specs.Derivation.{Trees}
 use Rattle.cr_scope.specs.declared.Space.TheVariants as space
-use Rattle.cr_scope.specs.Linkage.{is_file_scope}
 use Rattle.cr_binding.specs.Source.{Source}
 use Rattle.cr_binding.specs.State.{Declaration, LookedUp, WasAsked, IsParameter, IsBuiltIn, State}
 use Rattle.cr_binding.specs.Entities.{meaning}
@@ -40,11 +39,6 @@ AsksAreUsed t s =
     → Contains s.uses (WasAsked i path before answer)
     → IsLookedUpLater t s i path before ⊎ (IsParameterLater s i answer ⊎ IsSuppliedLater s i answer)
 
--- no label stands at file scope (6.8)
-abbrev pub LabelsAreInFunctions : State → Type 0
-LabelsAreInFunctions s =
-    (d : Declaration) → Contains s.declarations d → d.space ≡ space.Label → is_file_scope d.path ≡ false
-
 -- The unit u is well-formed with the tree of t, and its identifiers mean what those of t do.
 pub record MeansTheSame (t u : Source) (tree : Trees) : Type 0 where
   pub well_formed : IsWellFormed u tree
@@ -59,6 +53,5 @@ RenamingKeepsUnits =
     → IsWellFormed t tree
     → AreEntities class t (bound t tree)
     → IsFreeUnit class old new t (bound t tree)
-    → LabelsAreInFunctions (bound t tree)
     → AsksAreUsed t (bound t tree)
     → MeansTheSame t u tree

@@ -1,7 +1,7 @@
 //! The law that a renaming keeps what the identifiers of a whole translation unit mean.
 #![tactic(auto)]
 
-ghost use Rattle.cr_binding_law.specs.ConsistentUnits.{UnitsAreConsistent};
+ghost use Rattle.cr_binding_law.specs.ConsistentUnits.{UnitsAreConsistent, LabelsStandInFunctions};
 ghost use Rattle.cr_binding_law.specs.RenamingKeys.{KeysAreEntities, KeysAreFree, RenamingOfKeysKeepsUnits};
 ghost use Rattle.cr_binding_law.specs.UnitStays.{RenamingKeepsUnits};
 
@@ -29,12 +29,13 @@ pub fn renaming_keeps_units()
 }
 
 /// The declarations and members of any unit are consistent (C11 6.2.1, 6.2.3, 6.7p3, 6.7.2.1): each declaration may stand
-/// beside those before it, typedef names are ordinary identifiers, labels belong to functions, and a name selects one
-/// member of a record.
+/// beside those before it, typedef names are ordinary identifiers, a name selects one member of a record, and in a
+/// well-formed unit labels stand in functions.
 ///
 /// It does nothing: its contract is the law.
 pub fn units_are_consistent()
-    ensures { UnitsAreConsistent }
+    ensures lists { UnitsAreConsistent }
+    ensures labels { LabelsStandInFunctions }
 {}
 
 /// The tokens that mean an entity of some keys are of whole entities; where the facts of a unit tell no conflict of one of
