@@ -17,13 +17,13 @@ use Rattle.cr_scope.specs.Linkage.{is_file_scope}
 use Rattle.cr_binding.specs.Source.{Source}
 use Rattle.cr_binding.specs.State.{Declaration, State, start}
 use Rattle.cr_binding.specs.Declaring.{used}
-use Rattle.cr_binding.specs.Scoping.{unless_failed}
+use Rattle.cr_binding.specs.Scoping.{next_scope, unless_failed}
 use Rattle.cr_binding.specs.Actions.{passed, acted}
 use Rattle.cr_binding.specs.Binding.{ended_as, ended, asked, goes_on, walk, bound}
 use Rattle.cr_binding.specs.WellFormed.{terminals_of}
 use Rattle.cr_binding.proofs.Done.{none_before, unless_gives, goes_on_gives, ended_as_fault}
 use Rattle.cr_binding_law.specs.ConsistentUnits.{LabelsAreInFunctions, LabelsStandInFunctions}
-use Rattle.cr_binding_law.proofs.Scoped.{Flat, Effect, Deepens, Rises, Labels, Clears, Names, Rests, effect, at_scope, Does, acted_does, passed_flat, ended_as_flat}
+use Rattle.cr_binding_law.proofs.Scoped.{Flat, Effect, Enters, Reenters, Rises, Labels, Clears, Names, Rests, effect, at_scope, entered_at, Does, acted_does, passed_flat, ended_as_flat}
 
 -- ---- the grammar
 
@@ -46,7 +46,8 @@ is_zero (suc d) = false
 
 -- how many scopes are entered behind an action, and whether it may stand there
 abbrev depth_after : Effect → ℕ → ℕ
-depth_after Deepens d = suc d
+depth_after Enters d = suc d
+depth_after Reenters d = suc d
 depth_after Rises zero = zero
 depth_after Rises (suc d) = d
 depth_after _ d = d
@@ -244,8 +245,15 @@ module _ (inside : Bool) (d : ℕ) (s y : State) (w : least inside + d ≤ lengt
   same_place f = (ap (outer d) f.present, subst (λ p. least inside + d ≤ length p) (sym f.present) w)
 
   after : (e : Effect) → is_allowed e inside d ≡ true → Does e s y → After e
-  after Deepens h k =
-      let f : Flat (at_scope s (s.present ++ k.0 ∷ [])) y = k.1 in
+  after Enters h k =
+      let f : Flat (entered_at s k.0) y = k.2 in
+      let l : length (s.present ++ next_scope s ∷ []) ≡ length s.present + 1 = longer s.present (next_scope s) in (
+        ap (outer (suc d)) f.present ∙ ap (outer d) (without_end s.present (next_scope s)),
+        subst (λ p. least inside + suc d ≤ length p) (sym f.present) (omega (arith, l, w)),
+        f.labels,
+      )
+  after Reenters h k =
+      let f : Flat (at_scope s (s.present ++ k.0 ∷ [])) y = k.2 in
       let l : length (s.present ++ k.0 ∷ []) ≡ length s.present + 1 = longer s.present k.0 in (
         ap (outer (suc d)) f.present ∙ ap (outer d) (without_end s.present k.0),
         subst (λ p. least inside + suc d ≤ length p) (sym f.present) (omega (arith, l, w)),
