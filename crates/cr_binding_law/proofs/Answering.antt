@@ -15,7 +15,7 @@ use Rattle.cr_capture.specs.declared.Mention.TheVariants as mention
 use Rattle.cr_capture.specs.Conflicts.{Pair, IsConflict, IsCaptured, IsHidden}
 use Rattle.cr_capture.specs.Renaming.{IsFree, AreAccepted, IsFreeParameter}
 use Rattle.cr_capture.proofs.Renamed.{numbered}
-use Rattle.cr_binding.specs.Source.{Source, name_at}
+use Rattle.cr_binding.specs.Source.{Source, name_at, text_at, is_built_in}
 use Rattle.cr_binding.specs.State.{Declaration, LookedUp, IsParameter, IsBuiltIn, WasAsked, State, start}
 use Rattle.cr_binding.specs.Entities.{entry}
 use Rattle.cr_binding.specs.UnitConflicts.{scopes_at}
@@ -26,9 +26,11 @@ use Rattle.cr_binding.specs.BindingGrows.{Extends}
 use Rattle.cr_binding.specs.BindingStays.{MeansAlike}
 use Rattle.cr_binding.proofs.Asking.{declaration_of}
 use Rattle.cr_binding.proofs.Renaming.{entry_found}
-use Rattle.cr_binding_law.specs.Renaming.{IsRenamed, AreEntities}
+use Rattle.cr_binding_law.specs.Renaming.{HasNoOwnMeaning, IsRenamed, AreEntities}
 use Rattle.cr_binding_law.specs.UnitStays.{IsLookedUpLater, IsParameterLater, IsSuppliedLater, AsksAreUsed}
 use Rattle.cr_binding_law.proofs.Growth.{still_at}
+use Rattle.cr_binding.specs.Expressions.{is_function_name}
+use Rattle.cr_binding_law.proofs.Texts.{third_alike, third_by}
 use Rattle.cr_binding_law.proofs.Apart.{front}
 use Rattle.cr_binding_law.proofs.Renamed.{Laws, respelled, renaming, all_free, denoted_alike}
 
@@ -96,13 +98,18 @@ module _ (law : Laws) (class : ℕ → Bool) (old new : Name) (t u : Source) (re
   denied_answer i path before parameter fine itself denied =
       law.denied class old new t u (asked_in path before) i parameter (respelled law class old new t u ren end ents free) (renaming law class old new t u ren end ents free (take before end.declarations) (within path before)) (accepted_front t end.declarations before accepted) (all_free law class old new t u ren end ents free (asked_in path before) (within path before)) fine itself denied
 
-  supplied_answer : (i : ℕ) (path : List ℕ) (before : ℕ) → Contains end.uses (WasAsked i path before false) → Contains end.uses (IsBuiltIn i) → is_typedef_name t path i (take before end.declarations) ≡ false → is_typedef_name u path i (take before end.declarations) ≡ false
-  supplied_answer i path before was used denied =
-      denied_answer i path before false (law.asks class old new t end free i path before false was used) (λ c. absurd (differ (class i) c (ents.uses (IsBuiltIn i) used))) denied
+  supplied_answer : (i : ℕ) (path : List ℕ) (before : ℕ) → IsSuppliedLater t end i → is_typedef_name u path i (take before end.declarations) ≡ is_typedef_name t path i (take before end.declarations)
+  supplied_answer i path before p =
+      ap (λ k. is_some_typedef (option_and_then (slice_get (take before end.declarations)) k))
+      (third_alike class old new t u ren (asked_in path before) space.Ordinary i (third_by class old new t u ren i (ents.uses (IsBuiltIn i) p.used) (λ h. own h p.named)))
     where
       differ : (b : Bool) → b ≡ true → b ≡ false → ⊥
       differ true c d = cc
       differ false c d = cc
+
+      own : HasNoOwnMeaning (text_at t i) → (is_built_in (text_at t i) ≡ true) ⊎ (is_function_name (text_at t i) ≡ true) → ⊥
+      own h (inl e) = differ (is_built_in (text_at t i)) e h.no_built_in
+      own h (inr e) = differ (is_function_name (text_at t i)) e h.no_function_name
 
   -- the parameter that a token declares has no conflict of its own
   module _ (i : ℕ) (path : List ℕ) (before : ℕ) (was : Contains end.uses (WasAsked i path before false)) (used : Contains end.uses (IsParameter i)) (d : Declaration) (declared : Contains end.declarations d) (own : d.token ≡ i) (cls : class i ≡ true) where
@@ -150,9 +157,8 @@ module _ (law : Laws) (class : ℕ → Bool) (old new : Name) (t u : Source) (re
       denied : answer ≡ false → Contains end.uses (WasAsked i path before false) × (is_typedef_name t path i (take before end.declarations) ≡ false)
       denied e = (subst (λ b. Contains end.uses (WasAsked i path before b)) e was, sym right ∙ e)
 
-      by : IsLookedUpLater t end i path before ⊎ (IsParameterLater end i answer ⊎ IsSuppliedLater end i answer) → answer ≡ is_typedef_name u path i (take before end.declarations)
+      by : IsLookedUpLater t end i path before ⊎ (IsParameterLater end i answer ⊎ IsSuppliedLater t end i) → answer ≡ is_typedef_name u path i (take before end.declarations)
       by (inl l) = right ∙ sym (looked_answer i path before l)
       by (inr (inl p)) =
           let d = denied p.denied in p.denied ∙ sym (parameter_answer i path before d.0 answer p d.1)
-      by (inr (inr p)) =
-          let d = denied p.denied in p.denied ∙ sym (supplied_answer i path before d.0 p.used d.1)
+      by (inr (inr p)) = right ∙ sym (supplied_answer i path before p)

@@ -223,7 +223,7 @@ deep_enough false (suc d) n h w = omega (arith, w)
 
 -- ---- the walk
 
-asked_present : (asks : List Item) (s : State) → (asked asks s).present ≡ s.present
+pub asked_present : (asks : List Item) (s : State) → (asked asks s).present ≡ s.present
 asked_present [] s = refl
 asked_present (Passed i ∷ asks) s = asked_present asks s
 asked_present (Due x ∷ asks) s = asked_present asks s

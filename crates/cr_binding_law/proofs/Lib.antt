@@ -6,6 +6,7 @@ mod Consistent
 mod Growth
 mod Jumping
 mod Keyed
+mod Leading
 mod Membering
 mod Mentioning
 mod Parsing

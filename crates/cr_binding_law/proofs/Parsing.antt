@@ -34,7 +34,7 @@ spelled_alike t x y l = ap (λ k. is_spelled_kind k && is_among y.text (spelled 
     by false e =
         ap (λ b. b && is_among y.text (spelled t)) e ∙ sym (ap (λ b. b && is_among x.text (spelled t)) e)
 
-fits_alike : (t : Word) (x y : Terminal) (ahead : ℕ) → LooksLike x y → fits t y ahead ≡ fits t x ahead
+pub fits_alike : (t : Word) (x y : Terminal) (ahead : ℕ) → LooksLike x y → fits t y ahead ≡ fits t x ahead
 fits_alike w.End x y ahead l = ap (λ k. holds_if (is_end k)) l.kind
 fits_alike w.NotEnd x y ahead l = ap (λ k. holds_if (not (is_end k))) l.kind
 fits_alike w.Identifier x y ahead l = ap (λ k. holds_if (is_name k)) l.kind
@@ -50,7 +50,7 @@ meets_alike : (t : Word) (x y : Terminal) → LooksLike x y → meets t y ≡ me
 meets_alike t x y l =
     ap (λ k. cond (is_end k) Fails (fits t y 0)) l.kind ∙ ap (λ v. cond (is_end x.kind) Fails v) (fits_alike t x y 0 l)
 
-verdict_alike : (g : Guard) (x y x' y' : Terminal) → LooksLike x x' → LooksLike y y' → verdict g x' y' ≡ verdict g x y
+pub verdict_alike : (g : Guard) (x y x' y' : Terminal) → LooksLike x x' → LooksLike y y' → verdict g x' y' ≡ verdict g x y
 verdict_alike Else x y x' y' l m = refl
 verdict_alike (First a) x y x' y' l m = fits_alike a x x' 0 l
 verdict_alike (Both a b) x y x' y' l m =
@@ -62,7 +62,7 @@ chosen_by Fails r P Q i asks body on h = on asks h
 chosen_by (Asks ahead) r P Q i asks body on (inl h) = inl h
 chosen_by (Asks ahead) r P Q i asks body on (inr h) = inr (h.0, h.1, on h.0 h.2)
 
-chosen_alike : (rs : List Row) (x y x' y' : Terminal) (i : ℕ) (asks : List Item) (body : List Symbol) → LooksLike x x' → LooksLike y y' → Chosen rs x y i asks body → Chosen rs x' y' i asks body
+pub chosen_alike : (rs : List Row) (x y x' y' : Terminal) (i : ℕ) (asks : List Item) (body : List Symbol) → LooksLike x x' → LooksLike y y' → Chosen rs x y i asks body → Chosen rs x' y' i asks body
 chosen_alike [] x y x' y' i asks body l m h = h
 chosen_alike (r ∷ rs) x y x' y' i asks body l m h =
     subst (λ v. ChosenBy v r (λ more. Chosen rs x' y' i more body) i asks body) (sym (verdict_alike r.0 x y x' y' l m))
@@ -94,7 +94,7 @@ derives_alike ts us alike (node m asks children next) i (Act x ∷ ss) j h = h
 
 -- ---- the tokens of a unit
 
-terminal_kind : (texts : List (List ℕ)) (xs : List Tok) (i : ℕ) → (token_at (map (terminal texts) xs) i).kind ≡ (slice_index_or xs i no_token).kind
+pub terminal_kind : (texts : List (List ℕ)) (xs : List Tok) (i : ℕ) → (token_at (map (terminal texts) xs) i).kind ≡ (slice_index_or xs i no_token).kind
 terminal_kind texts [] i = refl
 terminal_kind texts (x ∷ xs) zero = refl
 terminal_kind texts (x ∷ xs) (suc i) = terminal_kind texts xs i
