@@ -44,7 +44,7 @@ use Rattle.cr_binding_law.proofs.Scoped.{Flat, passed_flat}
 abbrev pub name_seen : Terminal
 name_seen = record { kind = k.Ident; text = [] }
 
-abbrev not_failed : Verdict → Bool
+abbrev pub not_failed : Verdict → Bool
 not_failed Fails = false
 not_failed _ = true
 
@@ -90,7 +90,7 @@ is_lead b n.Stmt = b
 is_lead b n.Items = b
 is_lead b _ = false
 
-abbrev is_decl : Action → Bool
+abbrev pub is_decl : Action → Bool
 is_decl a.Decl = true
 is_decl _ = false
 
@@ -307,7 +307,7 @@ leads false n.Mod h = cc
 
 -- ---- the row that is chosen
 
-abbrev NoColon : Bool → Terminal → Type 0
+abbrev pub NoColon : Bool → Terminal → Type 0
 NoColon b y = b ≡ true → fits w.Colon y 1 ≡ Fails
 
 label_fails : (g : Guard) (x y : Terminal) (v : Verdict) → is_label_guard g ≡ true → fits w.Colon y 1 ≡ Fails → is_name x.kind ≡ true → verdict g x y ≡ Fails
@@ -318,7 +318,7 @@ label_fails (Both _ _) x y v h f e = cc
 label_fails Else x y v h f e = cc
 label_fails (First z) x y v h f e = cc
 
-failing : (v : Verdict) → not_failed v ≡ false → v ≡ Fails
+pub failing : (v : Verdict) → not_failed v ≡ false → v ≡ Fails
 failing Fails h = refl
 failing Holds h = cc
 failing (Asks n) h = cc
@@ -451,10 +451,10 @@ module _ (t : Source) (end : State) where
 
   -- a node that ends soundly, below which the walk ended soundly too
   module _ (m : NonTerm) (first : Option ℕ) (k : NonTerm) (asks : List Item) (children next : Trees) (s : State) where
-    abbrev below : State
+    abbrev pub below : State
     below = walk t k None children (asked asks s)
 
-    abbrev behind : State
+    abbrev pub behind : State
     behind = unless_failed s (ended m k children s below)
 
     pub below_sound : (walk t m first next behind).fault ≡ None → below.fault ≡ None
@@ -469,7 +469,7 @@ module _ (t : Source) (end : State) where
         followed below (ended m k children s below) end (ended_grows m k children s below)
         (subst (λ z. Grows z end) (unless_gives s (ended m k children s below) clear).1 grown)
 
-  decl_acted : (m : NonTerm) (first : ℕ) (x : Action) (s : State) → is_decl x ≡ true → acted t m first x s ≡ record s { pending = nothing_pending }
+  pub decl_acted : (m : NonTerm) (first : ℕ) (x : Action) (s : State) → is_decl x ≡ true → acted t m first x s ≡ record s { pending = nothing_pending }
   decl_acted m first a.Decl s h = refl
   decl_acted m first _ s h = cc
 
@@ -522,4 +522,11 @@ module _ (t : Source) (end : State) where
   lead (node q asks children next) m i (Non x ∷ ss) j b s d h e l nc sound g =
       let c : starts b d.1 ≡ true = chosen_starts b (rule x) (token_at (terminals_of t) i) (token_at (terminals_of t) (i + 1)) i asks d.1 l nc (leads b x h) d.3 in
       let r : Named (asked asks s).present (asked asks s).declarations i = lead children q i d.1 d.2 b (asked asks s) d.4 c e l nc (below_sound m None q asks children next s sound) (below_grows m None q asks children next s sound g) in
+      subst (λ p. Named p s.declarations i) (asked_present asks s) (subst (λ ds. Named (asked asks s).present ds i) (asked_declarations asks s) r)
+
+  -- a node that the identifier begins, whatever stands before it in its row
+  pub lead_below : (q x : NonTerm) (asks : List Item) (children : Trees) (i : ℕ) (body : List Symbol) (j : ℕ) (b : Bool) (s : State) → is_lead b x ≡ true → Chosen (rule x) (token_at (terminals_of t) i) (token_at (terminals_of t) (i + 1)) i asks body → Derives (terminals_of t) children i body j → is_identifier t i ≡ true → LooksLike name_seen (token_at (terminals_of t) i) → NoColon b (token_at (terminals_of t) (i + 1)) → (walk t q None children (asked asks s)).fault ≡ None → Grows (walk t q None children (asked asks s)) end → Named s.present s.declarations i
+  lead_below q x asks children i body j b s h chosen d e l nc sound g =
+      let c : starts b body ≡ true = chosen_starts b (rule x) (token_at (terminals_of t) i) (token_at (terminals_of t) (i + 1)) i asks body l nc (leads b x h) chosen in
+      let r : Named (asked asks s).present (asked asks s).declarations i = lead children q i body j b (asked asks s) d c e l nc sound g in
       subst (λ p. Named p s.declarations i) (asked_present asks s) (subst (λ ds. Named (asked asks s).present ds i) (asked_declarations asks s) r)

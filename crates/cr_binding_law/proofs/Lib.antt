@@ -13,6 +13,7 @@ mod Parsing
 mod Renamed
 mod Resolving
 mod Scoped
+mod Second
 mod Texts
 mod Units
 mod Walking
