@@ -270,7 +270,7 @@ module _ (inside : Bool) (d : ℕ) (s y : State) (w : least inside + d ≤ lengt
             f.labels,
           )
   after Labels h f =
-      let g : Flat s y = f (within s.present (deep_enough inside d (length s.present) h w)) in
+      let g : Flat s y = f.1 (within s.present (deep_enough inside d (length s.present) h w)) in
       let p = same_place g in (p.0, p.1, g.labels)
   after Clears h f = (ap (outer d) f.present, subst (λ p. least inside + d ≤ length p) (sym f.present) w, f.labels)
   after Names h f = (ap (outer d) f.present, subst (λ p. least inside + d ≤ length p) (sym f.present) w, f.labels)

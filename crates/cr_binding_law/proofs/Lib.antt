@@ -2,6 +2,7 @@ mod Acting
 mod Answering
 mod Apart
 mod Balanced
+mod Bounded
 mod Consistent
 mod Growth
 mod Jumping

@@ -6,6 +6,7 @@ use Rattle.std.proofs.lemmas.List.Elements.{Contains-append_cases}
 use Rattle.cr_base.specs.declared.Kind.{Kind}
 use Rattle.cr_base.specs.declared.Kind.TheVariants as kind
 use Rattle.cr_base.specs.declared.cause.IllCause.{IllCause}
+use Rattle.cr_base.specs.declared.cause.IllCause.TheVariants as cause
 use Rattle.cr_grammar.specs.declared.symbols.NonTerm.{NonTerm}
 use Rattle.cr_grammar.specs.declared.symbols.NonTerm.TheVariants as n
 use Rattle.cr_grammar.specs.declared.symbols.Action.{Action}
@@ -120,6 +121,21 @@ used_flat u s h =
       | inr k ↦ absurd (omega (arith, k.1))
     ]
 
+added_bounded : (d : Declaration) (s : State) → ((n : ℕ) → AllBelow n s.present → AllBelow n d.path) → IsBounded s → IsBounded (record s { declarations = s.declarations ++ d ∷ [] })
+added_bounded d s low b =
+    record {
+      declared = λ e there. below e (Contains-append_cases s.declarations (d ∷ []) e there);
+      present = b.present;
+      parameters = b.parameters;
+    }
+  where
+    below : (e : Declaration) → Contains s.declarations e ⊎ Contains (d ∷ []) e → AllBelow s.scopes e.path
+    below e (inl there) = b.declared e there
+    below e (inr there) = elim (head_or_tail d e [] there) [
+        | inl k ↦ subst (λ (x : Declaration). AllBelow s.scopes x.path) k (low s.scopes b.present)
+        | inr k ↦ absurd (omega (arith, k.1))
+      ]
+
 -- a declaration that is no label, or a label in a function
 added_flat : (d : Declaration) (s : State) → ((n : ℕ) → AllBelow n s.present → AllBelow n d.path) → (d.space ≡ space.Label → is_file_scope d.path ≡ false) → Flat s (record s { declarations = s.declarations ++ d ∷ [] })
 added_flat d s low fine =
@@ -127,24 +143,28 @@ added_flat d s low fine =
       present = refl;
       name = refl;
       scopes = refl;
-      bounded = λ b. record { declared = λ e there. below b e (Contains-append_cases s.declarations (d ∷ []) e there); present = b.present; parameters = b.parameters };
+      bounded = added_bounded d s low;
       labels = λ l e there h. by l e h (Contains-append_cases s.declarations (d ∷ []) e there);
       asks = λ i path before answer there. there;
     }
   where
-    below : IsBounded s → (e : Declaration) → Contains s.declarations e ⊎ Contains (d ∷ []) e → AllBelow s.scopes e.path
-    below b e (inl there) = b.declared e there
-    below b e (inr there) = elim (head_or_tail d e [] there) [
-        | inl k ↦ subst (λ (x : Declaration). AllBelow s.scopes x.path) k (low s.scopes b.present)
-        | inr k ↦ absurd (omega (arith, k.1))
-      ]
-
     by : LabelsAreInFunctions s → (e : Declaration) → e.space ≡ space.Label → Contains s.declarations e ⊎ Contains (d ∷ []) e → is_file_scope e.path ≡ false
     by l e h (inl there) = l e there h
     by l e h (inr there) = elim (head_or_tail d e [] there) [
       | inl k ↦ subst (λ (x : Declaration). is_file_scope x.path ≡ false) k (fine (ap (λ (x : Declaration). x.space) k ∙ h))
       | inr k ↦ absurd (omega (arith, k.1))
     ]
+
+-- all but what is said of labels
+pub record Rest (s x : State) : Type 0 where
+  pub present : x.present ≡ s.present
+  pub name : x.pending.name ≡ s.pending.name
+  pub scopes : x.scopes ≡ s.scopes
+  pub bounded : IsBounded s → IsBounded x
+  pub asks : AsksStay s x
+
+pub rest_of : (s x : State) → Flat s x → Rest s x
+rest_of s x f = record { present = f.present; name = f.name; scopes = f.scopes; bounded = f.bounded; asks = f.asks }
 
 -- what an action does to scopes, labels and the name that is declared
 pub data Effect : Type 0 where
@@ -182,7 +202,7 @@ Does Enters s y =
     (p : Option ℕ) × ((p ≡ s.pending.parameters) ⊎ (p ≡ Some (next_scope s))) × Flat (entered_at s p) y
 Does Reenters s y = (k : ℕ) × (s.pending.parameters ≡ Some k) × Flat (at_scope s (s.present ++ k ∷ [])) y
 Does Rises s y = Flat (at_scope s (take (length s.present - 1) s.present)) y
-Does Labels s y = is_file_scope s.present ≡ false → Flat s y
+Does Labels s y = Rest s y × (is_file_scope s.present ≡ false → Flat s y)
 Does Clears s y = Flat (at_name s None) y
 Does Names s y = Flat (at_name s (Some s.last)) y
 Does Rests s y = Flat s y
@@ -418,6 +438,11 @@ module _ (t : Source) where
   in_function [] h = cc
   in_function (x ∷ p) h = refl
 
+  label_rest : (d : Declaration) (s : State) → ((n : ℕ) → AllBelow n s.present → AllBelow n d.path) → (b : Bool) → Rest s (if b then failed cause.Redeclared d.token s else record s { declarations = s.declarations ++ d ∷ [] })
+  label_rest d s low true = rest_of s _ (failed_flat cause.Redeclared d.token s)
+  label_rest d s low false =
+      record { present = refl; name = refl; scopes = refl; bounded = added_bounded d s low; asks = λ i path before answer there. there }
+
   pub acted_does : (m : NonTerm) (first : ℕ) (x : Action) (s : State) → (acted t m first x s).fault ≡ None → Does (effect x) s (acted t m first x s)
   acted_does m first a.Decl s h = same _ _ refl refl refl refl refl refl
   acted_does m first a.Spec s h = specifier_flat first s
@@ -437,7 +462,8 @@ module _ (t : Source) where
   acted_does m first a.Body s h = body_does s.pending.parameters s refl h
   acted_does m first a.EndBody s h = ends s
   acted_does m first a.Label s h =
-      λ f. declare_flat (declaration space.Label kind.Label linkage.None s.last Void s) s (λ n b. front_below n s.present b) (λ e. in_function s.present f)
+      let d = declaration space.Label kind.Label linkage.None s.last Void s in
+      (label_rest d s (λ n b. front_below n s.present b) (list_any (clashes (entry t d)) (map (entry t) s.declarations)), λ f. declare_flat d s (λ n b. front_below n s.present b) (λ e. in_function s.present f))
   acted_does m first a.Callee s h = identifier_flat true s.last s
   acted_does m first a.Mention s h = identifier_flat false s.last s
   acted_does m first a.Select s h =
