@@ -1,6 +1,7 @@
 mod Acting
 mod Answering
 mod Apart
+mod Asked
 mod Balanced
 mod Bounded
 mod Consistent
