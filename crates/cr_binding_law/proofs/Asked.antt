@@ -32,6 +32,7 @@ use Rattle.cr_binding.specs.Binding.{bound}
 use Rattle.cr_binding.specs.WellFormed.{terminals_of}
 use Rattle.cr_binding_law.specs.UnitStays.{IsLookedUpLater, IsParameterLater, IsSuppliedLater, AsksAreUsed}
 use Rattle.cr_binding_law.proofs.Parsing.{LooksLike, terminal_kind, chosen_alike}
+use Rattle.cr_binding_law.proofs.Consistent.{head_or_tail}
 use Rattle.cr_binding_law.proofs.Growth.{front_taken}
 use Rattle.cr_binding_law.proofs.Balanced.{and_both}
 use Rattle.cr_binding_law.proofs.Leading.{name_seen, is_lead, NoColon, Named}
@@ -420,3 +421,159 @@ asks_name word x ahead p h = by _ h
     by : (b : Bool) → cond b Holds Fails ≡ Asks p → (asks_word word ≡ true) × (is_name x.kind ≡ true) × (p ≡ ahead)
     by true h = cc
     by false h = cc
+
+-- ---- what an ask tells
+
+abbrev Tells : List Row → Terminal → Terminal → ℕ → ℕ → Type 0
+Tells rs x y i p =
+    ((p ≡ i) × (is_name x.kind ≡ true) × (first_asks rs ≡ true))
+    ⊎ ((p ≡ i + 1) × (is_name y.kind ≡ true) × (second_asks rs ≡ true) × ((m : Mark) × LooksLike x (seen_as m)))
+
+later_row : (a b : Bool) → b ≡ true → (a || b) ≡ true
+later_row true b h = refl
+later_row false b h = h
+
+own_row : (a b : Bool) → a ≡ true → (a || b) ≡ true
+own_row true b h = refl
+own_row false b h = cc
+
+later_tells : (r : Row) (rs : List Row) (x y : Terminal) (i p : ℕ) → Tells rs x y i p → Tells (r ∷ rs) x y i p
+later_tells (Else, body) rs x y i p h = h
+later_tells (First z, body) rs x y i p (inl h) = inl (h.0, h.1, later_row (asks_word z) (first_asks rs) h.2)
+later_tells (First z, body) rs x y i p (inr h) = inr h
+later_tells (Both z u, body) rs x y i p (inl h) = inl (h.0, h.1, later_row (asks_word z) (first_asks rs) h.2)
+later_tells (Both z u, body) rs x y i p (inr h) = inr (h.0, h.1, later_row (asks_word u) (second_asks rs) h.2, h.3)
+
+own_tells : (r : Row) (rs : List Row) (x y : Terminal) (i ahead : ℕ) → marks_only (r ∷ rs) ≡ true → verdict r.0 x y ≡ Asks ahead → Tells (r ∷ rs) x y i (ask_at i ahead)
+own_tells (Else, body) rs x y i ahead m h = cc
+own_tells (First z, body) rs x y i ahead m h =
+    let q = asks_name z x 0 ahead h in inl (ap (ask_at i) q.2, q.1, own_row (asks_word z) (first_asks rs) q.0)
+own_tells (Both z u, body) rs x y i ahead m h = by (fits z x 0) refl h
+  where
+    marked : (not (asks_word u) || is_mark_word z) ≡ true → asks_word u ≡ true → is_mark_word z ≡ true
+    marked h g = from (asks_word u) (is_mark_word z) h g
+      where
+        from : (a b : Bool) → (not a || b) ≡ true → a ≡ true → b ≡ true
+        from true b h g = h
+        from false b h g = cc
+
+    by : (v : Verdict) → fits z x 0 ≡ v → after_first v (fits u y 1) ≡ Asks ahead → Tells ((Both z u, body) ∷ rs) x y i (ask_at i ahead)
+    by Fails e h = cc
+    by (Asks n) e h =
+        let q = asks_name z x 0 n e in
+        let same : n ≡ ahead = cc in
+        inl (ap (ask_at i) (sym same ∙ q.2), q.1, own_row (asks_word z) (first_asks rs) q.0)
+    by Holds e h =
+        let q = asks_name u y 1 ahead h in
+        let k = and_both (not (asks_word u) || is_mark_word z) (marks_only rs) m in
+        inr (ap (ask_at i) q.2, q.1, own_row (asks_word u) (second_asks rs) q.0, mark_of z x (marked k.0 q.0) e)
+
+rest_marks : (r : Row) (rs : List Row) → marks_only (r ∷ rs) ≡ true → marks_only rs ≡ true
+rest_marks (Else, body) rs m = m
+rest_marks (First z, body) rs m = m
+rest_marks (Both z u, body) rs m = (and_both (not (asks_word u) || is_mark_word z) (marks_only rs) m).1
+
+in_none : {P : Type 0} (asks : List Item) (z : Item) → asks ≡ [] → Contains asks z → P
+in_none asks z e c = let k : Contains [] z = subst (λ l. Contains l z) e c in absurd (omega (arith, k.1))
+
+asked_one : (p q : ℕ) (b c : Bool) → Asked p b ≡ Asked q c → p ≡ q
+asked_one p q b c e = cc
+
+asks_tell : (rs : List Row) (x y : Terminal) (i : ℕ) (asks : List Item) (body : List Symbol) → marks_only rs ≡ true → Chosen rs x y i asks body → (p : ℕ) (b : Bool) → Contains asks (Asked p b) → Tells rs x y i p
+asks_tell [] x y i asks body m h p b c = absurd h
+asks_tell (r ∷ rs) x y i asks body m h p b c =
+    by (verdict r.0 x y) refl h (λ more k d. later_tells r rs x y i p (asks_tell rs x y i more body (rest_marks r rs m) k p b d))
+  where
+    head : (ahead : ℕ) (c : Bool) (more : List Item) → verdict r.0 x y ≡ Asks ahead → Contains (Asked (ask_at i ahead) c ∷ more) (Asked p b) → ((Contains more (Asked p b)) → Tells (r ∷ rs) x y i p) → Tells (r ∷ rs) x y i p
+    head ahead c more e there rest = elim (head_or_tail (Asked (ask_at i ahead) c) (Asked p b) more there) [
+        | inl q ↦ subst (Tells (r ∷ rs) x y i) (asked_one (ask_at i ahead) p c b q) (own_tells r rs x y i ahead m e)
+        | inr d ↦ rest d
+      ]
+
+    by : (v : Verdict) → verdict r.0 x y ≡ v → ChosenBy v r (λ more. Chosen rs x y i more body) i asks body → ((more : List Item) → Chosen rs x y i more body → Contains more (Asked p b) → Tells (r ∷ rs) x y i p) → Tells (r ∷ rs) x y i p
+    by Holds e h later = in_none asks (Asked p b) h.0 c
+    by Fails e h later = later asks h c
+    by (Asks ahead) e (inl h) later =
+        head ahead true [] e (subst (λ l. Contains l (Asked p b)) h.0 c) (λ d. in_none [] (Asked p b) refl d)
+    by (Asks ahead) e (inr h) later =
+        head ahead false h.0 e (subst (λ l. Contains l (Asked p b)) h.1 c) (λ d. later h.0 h.2 d)
+
+-- at the beginning of a block's item what is asked isn't a label
+items_colon : (y : Terminal) (i : ℕ) (asks : List Item) (body : List Symbol) (z : Item) → Chosen (rule n.Items) name_seen y i asks body → Contains asks z → fits w.Colon y 1 ≡ Fails
+unfolding rule
+items_colon y i asks body z h c = by (is_spelled w.Colon y) refl h
+  where
+    by : (b : Bool) → is_spelled w.Colon y ≡ b → ChosenBy (cond b Holds Fails) (Both w.Identifier w.Colon, Non n.Stmt ∷ Non n.Items ∷ []) (λ more. Chosen ((First w.Specifier, Non n.Decl ∷ Non n.Items ∷ []) ∷ (First w.StaticAssert, Non n.Decl ∷ Non n.Items ∷ []) ∷ (Both w.Extension w.Specifier, Non n.Decl ∷ Non n.Items ∷ []) ∷ (First w.Attribute, Non n.Attr ∷ Non n.ItemAttr ∷ Non n.Items ∷ []) ∷ (Else, Non n.Stmt ∷ Non n.Items ∷ []) ∷ []) name_seen y i more body) i asks body → fits w.Colon y 1 ≡ Fails
+    by true e h = in_none asks z h.0 c
+    by false e h = ap (λ b. cond b Holds Fails) e
+
+-- ---- the bodies behind a parenthesis
+
+abbrev is_paren : Mark → Bool
+is_paren Paren = true
+is_paren KeyParen = true
+is_paren _ = false
+
+abbrev sufs : List Symbol
+sufs =
+    Term w.LeftParen ∷ Act a.Enter ∷ Non n.Params ∷ Term w.RightParen ∷ Act a.Leave ∷ Non n.Sufs ∷ []
+
+abbrev nested_pdtor : List Symbol
+nested_pdtor = Term w.LeftParen ∷ Non n.AttrOpt ∷ Non n.PDtor ∷ Term w.RightParen ∷ Non n.Sufs ∷ []
+
+abbrev nested_adtor : List Symbol
+nested_adtor = Term w.LeftParen ∷ Non n.ADtor ∷ Term w.RightParen ∷ Non n.Sufs ∷ []
+
+sufs_body : (m : Mark) (i : ℕ) (asks : List Item) (body : List Symbol) → is_paren m ≡ true → Chosen (rule n.Sufs) (seen_as m) name_seen i asks body → body ≡ sufs
+unfolding rule spelled
+sufs_body Paren i asks body h c = c.1
+sufs_body KeyParen i asks body h c = c.1
+sufs_body Extension i asks body h c = cc
+sufs_body PunctExtension i asks body h c = cc
+
+-- one ask, of the token behind the mark
+abbrev AskedBehind : List Symbol → ℕ → List Item → List Symbol → Type 0
+AskedBehind nested i asks body =
+    ((asks ≡ Asked (i + 1) true ∷ []) × (body ≡ Non n.Sufs ∷ [])) ⊎ ((asks ≡ Asked (i + 1) false ∷ []) × (body ≡ nested))
+
+pdtor_body : (m : Mark) (i : ℕ) (asks : List Item) (body : List Symbol) (z : Item) → Contains asks z → Chosen (rule n.PDtor) (seen_as m) name_seen i asks body → (is_paren m ≡ true) × AskedBehind nested_pdtor i asks body
+unfolding rule spelled
+pdtor_body Paren i asks body z there (inl c) = (refl, inl c)
+pdtor_body Paren i asks body z there (inr c) = (refl, inr (c.1 ∙ ap (λ l. Asked (i + 1) false ∷ l) c.2.0, c.2.1))
+pdtor_body KeyParen i asks body z there (inl c) = (refl, inl c)
+pdtor_body KeyParen i asks body z there (inr c) = (refl, inr (c.1 ∙ ap (λ l. Asked (i + 1) false ∷ l) c.2.0, c.2.1))
+pdtor_body Extension i asks body z there c = in_none asks z c.0 there
+pdtor_body PunctExtension i asks body z there c = in_none asks z c.0 there
+
+adtor_body : (m : Mark) (i : ℕ) (asks : List Item) (body : List Symbol) (z : Item) → Contains asks z → Chosen (rule n.ADtor) (seen_as m) name_seen i asks body → (is_paren m ≡ true) × AskedBehind nested_adtor i asks body
+unfolding rule spelled
+adtor_body Paren i asks body z there (inl c) = (refl, inl c)
+adtor_body Paren i asks body z there (inr c) = (refl, inr (c.1 ∙ ap (λ l. Asked (i + 1) false ∷ l) c.2.0, c.2.1))
+adtor_body KeyParen i asks body z there (inl c) = (refl, inl c)
+adtor_body KeyParen i asks body z there (inr c) = (refl, inr (c.1 ∙ ap (λ l. Asked (i + 1) false ∷ l) c.2.0, c.2.1))
+adtor_body Extension i asks body z there c = in_none asks z c.0 there
+adtor_body PunctExtension i asks body z there c = in_none asks z c.0 there
+
+-- ---- at an identifier
+
+attr_none : (y : Terminal) (i : ℕ) (asks : List Item) (body : List Symbol) → Chosen (rule n.AttrOpt) name_seen y i asks body → body ≡ []
+unfolding rule
+attr_none y i asks body c = c.1
+
+pdtor_id : (y : Terminal) (i : ℕ) (asks : List Item) (body : List Symbol) → Chosen (rule n.PDtor) name_seen y i asks body → body ≡ Term w.Identifier ∷ Act a.Name ∷ Non n.Sufs ∷ []
+unfolding rule
+pdtor_id y i asks body c = c.1
+
+adtor_id : (y : Terminal) (i : ℕ) (asks : List Item) (body : List Symbol) → Chosen (rule n.ADtor) name_seen y i asks body → body ≡ Non n.Sufs ∷ []
+unfolding rule
+adtor_id y i asks body c = c.1
+
+sufs_id : (y : Terminal) (i : ℕ) (asks : List Item) (body : List Symbol) → Chosen (rule n.Sufs) name_seen y i asks body → body ≡ []
+unfolding rule
+sufs_id y i asks body c = c.1
+
+nothing_spans : (ts : List Terminal) (trees : Trees) (i j : ℕ) → Derives ts trees i [] j → j ≡ i
+nothing_spans ts none i j d = sym d
+nothing_spans ts (token q next) i j d = absurd d
+nothing_spans ts (action q next) i j d = absurd d
+nothing_spans ts (node q asks children next) i j d = absurd d

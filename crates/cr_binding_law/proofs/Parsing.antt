@@ -46,7 +46,7 @@ fits_alike w.Specifier x y ahead l =
     ∙ ap (λ b. asks_if (is_name x.kind) ahead (holds_if b)) (spelled_alike w.Specifier x y l)
 fits_alike t x y ahead l = ap holds_if (spelled_alike t x y l)
 
-meets_alike : (t : Word) (x y : Terminal) → LooksLike x y → meets t y ≡ meets t x
+pub meets_alike : (t : Word) (x y : Terminal) → LooksLike x y → meets t y ≡ meets t x
 meets_alike t x y l =
     ap (λ k. cond (is_end k) Fails (fits t y 0)) l.kind ∙ ap (λ v. cond (is_end x.kind) Fails v) (fits_alike t x y 0 l)
 

@@ -523,14 +523,14 @@ module _ (t : Source) (end : State) where
   free_colon y h = cc
 
   -- behind a token that was passed
-  token_then : (m : NonTerm) (i : ℕ) (s : State) (p : ℕ) → (goes_on s (passed t m i s)).fault ≡ None → Named t end (goes_on s (passed t m i s)).present (goes_on s (passed t m i s)).declarations p → Named t end s.present s.declarations p
+  pub token_then : (m : NonTerm) (i : ℕ) (s : State) (p : ℕ) → (goes_on s (passed t m i s)).fault ≡ None → Named t end (goes_on s (passed t m i s)).present (goes_on s (passed t m i s)).declarations p → Named t end s.present s.declarations p
   token_then m i s p clear r =
       let v = goes_on_gives s (passed t m i s) clear in
       let f : Flat s (passed t m i s) = passed_flat t m i s in
       subst (λ q. Named t end q s.declarations p) (ap (λ (z : State). z.present) v.1 ∙ f.present)
       (subst (λ ds. Named t end (goes_on s (passed t m i s)).present ds p) (ap (λ (z : State). z.declarations) v.1 ∙ passed_declarations t m i s) r)
 
-  node_next : (next : Trees) (m : NonTerm) (first : Option ℕ) (i : ℕ) (ss : List Symbol) (j : ℕ) (s : State) → Derives (terminals_of t) next i ss j → leads_next ss ≡ true → is_identifier t i ≡ true → LooksLike name_seen (tok i) → (walk t m first next s).fault ≡ None → Grows (walk t m first next s) end → Named t end s.present s.declarations i
+  pub node_next : (next : Trees) (m : NonTerm) (first : Option ℕ) (i : ℕ) (ss : List Symbol) (j : ℕ) (s : State) → Derives (terminals_of t) next i ss j → leads_next ss ≡ true → is_identifier t i ≡ true → LooksLike name_seen (tok i) → (walk t m first next s).fault ≡ None → Grows (walk t m first next s) end → Named t end s.present s.declarations i
   node_next none m first i [] j s d h e l sound g = cc
   node_next none m first i (x ∷ ss) j s d h e l sound g = absurd d
   node_next (token q next) m first i [] j s d h e l sound g = absurd d
