@@ -51,13 +51,13 @@ is_mark_word w.Extension = true
 is_mark_word _ = false
 
 -- the first token of a node is asked, or the one behind a mark
-abbrev first_asks : List Row → Bool
+abbrev pub first_asks : List Row → Bool
 first_asks [] = false
 first_asks ((First x, body) ∷ rs) = asks_word x || first_asks rs
 first_asks ((Both x y, body) ∷ rs) = asks_word x || first_asks rs
 first_asks ((Else, body) ∷ rs) = first_asks rs
 
-abbrev second_asks : List Row → Bool
+abbrev pub second_asks : List Row → Bool
 second_asks [] = false
 second_asks ((Both x y, body) ∷ rs) = asks_word y || second_asks rs
 second_asks ((First x, body) ∷ rs) = second_asks rs
@@ -69,19 +69,19 @@ marks_only ((Both x y, body) ∷ rs) = (not (asks_word y) || is_mark_word x) && 
 marks_only ((First x, body) ∷ rs) = marks_only rs
 marks_only ((Else, body) ∷ rs) = marks_only rs
 
-abbrev is_items : NonTerm → Bool
+abbrev pub is_items : NonTerm → Bool
 is_items n.Items = true
 is_items _ = false
 
-abbrev is_pdtor : NonTerm → Bool
+abbrev pub is_pdtor : NonTerm → Bool
 is_pdtor n.PDtor = true
 is_pdtor _ = false
 
-abbrev is_adtor : NonTerm → Bool
+abbrev pub is_adtor : NonTerm → Bool
 is_adtor n.ADtor = true
 is_adtor _ = false
 
-rules_first : (m : NonTerm) → (not (first_asks (rule m)) || (is_lead false m || is_items m)) ≡ true
+pub rules_first : (m : NonTerm) → (not (first_asks (rule m)) || (is_lead false m || is_items m)) ≡ true
 unfolding rule
 rules_first n.Unit = refl
 rules_first n.External = refl
@@ -176,7 +176,7 @@ rules_first n.Desigs = refl
 rules_first n.DesMore = refl
 rules_first n.Mod = refl
 
-rules_second : (m : NonTerm) → (not (second_asks (rule m)) || (is_second m || (is_pdtor m || is_adtor m))) ≡ true
+pub rules_second : (m : NonTerm) → (not (second_asks (rule m)) || (is_second m || (is_pdtor m || is_adtor m))) ≡ true
 unfolding rule
 rules_second n.Unit = refl
 rules_second n.External = refl
@@ -271,7 +271,7 @@ rules_second n.Desigs = refl
 rules_second n.DesMore = refl
 rules_second n.Mod = refl
 
-rules_marks : (m : NonTerm) → marks_only (rule m) ≡ true
+pub rules_marks : (m : NonTerm) → marks_only (rule m) ≡ true
 unfolding rule
 rules_marks n.Unit = refl
 rules_marks n.External = refl
@@ -424,7 +424,7 @@ asks_name word x ahead p h = by _ h
 
 -- ---- what an ask tells
 
-abbrev Tells : List Row → Terminal → Terminal → ℕ → ℕ → Type 0
+abbrev pub Tells : List Row → Terminal → Terminal → ℕ → ℕ → Type 0
 Tells rs x y i p =
     ((p ≡ i) × (is_name x.kind ≡ true) × (first_asks rs ≡ true))
     ⊎ ((p ≡ i + 1) × (is_name y.kind ≡ true) × (second_asks rs ≡ true) × ((m : Mark) × LooksLike x (seen_as m)))
@@ -473,13 +473,13 @@ rest_marks (Else, body) rs m = m
 rest_marks (First z, body) rs m = m
 rest_marks (Both z u, body) rs m = (and_both (not (asks_word u) || is_mark_word z) (marks_only rs) m).1
 
-in_none : {P : Type 0} (asks : List Item) (z : Item) → asks ≡ [] → Contains asks z → P
+pub in_none : {P : Type 0} (asks : List Item) (z : Item) → asks ≡ [] → Contains asks z → P
 in_none asks z e c = let k : Contains [] z = subst (λ l. Contains l z) e c in absurd (omega (arith, k.1))
 
 asked_one : (p q : ℕ) (b c : Bool) → Asked p b ≡ Asked q c → p ≡ q
 asked_one p q b c e = cc
 
-asks_tell : (rs : List Row) (x y : Terminal) (i : ℕ) (asks : List Item) (body : List Symbol) → marks_only rs ≡ true → Chosen rs x y i asks body → (p : ℕ) (b : Bool) → Contains asks (Asked p b) → Tells rs x y i p
+pub asks_tell : (rs : List Row) (x y : Terminal) (i : ℕ) (asks : List Item) (body : List Symbol) → marks_only rs ≡ true → Chosen rs x y i asks body → (p : ℕ) (b : Bool) → Contains asks (Asked p b) → Tells rs x y i p
 asks_tell [] x y i asks body m h p b c = absurd h
 asks_tell (r ∷ rs) x y i asks body m h p b c =
     by (verdict r.0 x y) refl h (λ more k d. later_tells r rs x y i p (asks_tell rs x y i more body (rest_marks r rs m) k p b d))
@@ -499,7 +499,7 @@ asks_tell (r ∷ rs) x y i asks body m h p b c =
         head ahead false h.0 e (subst (λ l. Contains l (Asked p b)) h.1 c) (λ d. later h.0 h.2 d)
 
 -- at the beginning of a block's item what is asked isn't a label
-items_colon : (y : Terminal) (i : ℕ) (asks : List Item) (body : List Symbol) (z : Item) → Chosen (rule n.Items) name_seen y i asks body → Contains asks z → fits w.Colon y 1 ≡ Fails
+pub items_colon : (y : Terminal) (i : ℕ) (asks : List Item) (body : List Symbol) (z : Item) → Chosen (rule n.Items) name_seen y i asks body → Contains asks z → fits w.Colon y 1 ≡ Fails
 unfolding rule
 items_colon y i asks body z h c = by (is_spelled w.Colon y) refl h
   where
@@ -509,22 +509,22 @@ items_colon y i asks body z h c = by (is_spelled w.Colon y) refl h
 
 -- ---- the bodies behind a parenthesis
 
-abbrev is_paren : Mark → Bool
+abbrev pub is_paren : Mark → Bool
 is_paren Paren = true
 is_paren KeyParen = true
 is_paren _ = false
 
-abbrev sufs : List Symbol
+abbrev pub sufs : List Symbol
 sufs =
     Term w.LeftParen ∷ Act a.Enter ∷ Non n.Params ∷ Term w.RightParen ∷ Act a.Leave ∷ Non n.Sufs ∷ []
 
-abbrev nested_pdtor : List Symbol
+abbrev pub nested_pdtor : List Symbol
 nested_pdtor = Term w.LeftParen ∷ Non n.AttrOpt ∷ Non n.PDtor ∷ Term w.RightParen ∷ Non n.Sufs ∷ []
 
-abbrev nested_adtor : List Symbol
+abbrev pub nested_adtor : List Symbol
 nested_adtor = Term w.LeftParen ∷ Non n.ADtor ∷ Term w.RightParen ∷ Non n.Sufs ∷ []
 
-sufs_body : (m : Mark) (i : ℕ) (asks : List Item) (body : List Symbol) → is_paren m ≡ true → Chosen (rule n.Sufs) (seen_as m) name_seen i asks body → body ≡ sufs
+pub sufs_body : (m : Mark) (i : ℕ) (asks : List Item) (body : List Symbol) → is_paren m ≡ true → Chosen (rule n.Sufs) (seen_as m) name_seen i asks body → body ≡ sufs
 unfolding rule spelled
 sufs_body Paren i asks body h c = c.1
 sufs_body KeyParen i asks body h c = c.1
@@ -532,11 +532,11 @@ sufs_body Extension i asks body h c = cc
 sufs_body PunctExtension i asks body h c = cc
 
 -- one ask, of the token behind the mark
-abbrev AskedBehind : List Symbol → ℕ → List Item → List Symbol → Type 0
+abbrev pub AskedBehind : List Symbol → ℕ → List Item → List Symbol → Type 0
 AskedBehind nested i asks body =
     ((asks ≡ Asked (i + 1) true ∷ []) × (body ≡ Non n.Sufs ∷ [])) ⊎ ((asks ≡ Asked (i + 1) false ∷ []) × (body ≡ nested))
 
-pdtor_body : (m : Mark) (i : ℕ) (asks : List Item) (body : List Symbol) (z : Item) → Contains asks z → Chosen (rule n.PDtor) (seen_as m) name_seen i asks body → (is_paren m ≡ true) × AskedBehind nested_pdtor i asks body
+pub pdtor_body : (m : Mark) (i : ℕ) (asks : List Item) (body : List Symbol) (z : Item) → Contains asks z → Chosen (rule n.PDtor) (seen_as m) name_seen i asks body → (is_paren m ≡ true) × AskedBehind nested_pdtor i asks body
 unfolding rule spelled
 pdtor_body Paren i asks body z there (inl c) = (refl, inl c)
 pdtor_body Paren i asks body z there (inr c) = (refl, inr (c.1 ∙ ap (λ l. Asked (i + 1) false ∷ l) c.2.0, c.2.1))
@@ -545,7 +545,7 @@ pdtor_body KeyParen i asks body z there (inr c) = (refl, inr (c.1 ∙ ap (λ l. 
 pdtor_body Extension i asks body z there c = in_none asks z c.0 there
 pdtor_body PunctExtension i asks body z there c = in_none asks z c.0 there
 
-adtor_body : (m : Mark) (i : ℕ) (asks : List Item) (body : List Symbol) (z : Item) → Contains asks z → Chosen (rule n.ADtor) (seen_as m) name_seen i asks body → (is_paren m ≡ true) × AskedBehind nested_adtor i asks body
+pub adtor_body : (m : Mark) (i : ℕ) (asks : List Item) (body : List Symbol) (z : Item) → Contains asks z → Chosen (rule n.ADtor) (seen_as m) name_seen i asks body → (is_paren m ≡ true) × AskedBehind nested_adtor i asks body
 unfolding rule spelled
 adtor_body Paren i asks body z there (inl c) = (refl, inl c)
 adtor_body Paren i asks body z there (inr c) = (refl, inr (c.1 ∙ ap (λ l. Asked (i + 1) false ∷ l) c.2.0, c.2.1))
@@ -556,23 +556,23 @@ adtor_body PunctExtension i asks body z there c = in_none asks z c.0 there
 
 -- ---- at an identifier
 
-attr_none : (y : Terminal) (i : ℕ) (asks : List Item) (body : List Symbol) → Chosen (rule n.AttrOpt) name_seen y i asks body → body ≡ []
+pub attr_none : (y : Terminal) (i : ℕ) (asks : List Item) (body : List Symbol) → Chosen (rule n.AttrOpt) name_seen y i asks body → body ≡ []
 unfolding rule
 attr_none y i asks body c = c.1
 
-pdtor_id : (y : Terminal) (i : ℕ) (asks : List Item) (body : List Symbol) → Chosen (rule n.PDtor) name_seen y i asks body → body ≡ Term w.Identifier ∷ Act a.Name ∷ Non n.Sufs ∷ []
+pub pdtor_id : (y : Terminal) (i : ℕ) (asks : List Item) (body : List Symbol) → Chosen (rule n.PDtor) name_seen y i asks body → body ≡ Term w.Identifier ∷ Act a.Name ∷ Non n.Sufs ∷ []
 unfolding rule
 pdtor_id y i asks body c = c.1
 
-adtor_id : (y : Terminal) (i : ℕ) (asks : List Item) (body : List Symbol) → Chosen (rule n.ADtor) name_seen y i asks body → body ≡ Non n.Sufs ∷ []
+pub adtor_id : (y : Terminal) (i : ℕ) (asks : List Item) (body : List Symbol) → Chosen (rule n.ADtor) name_seen y i asks body → body ≡ Non n.Sufs ∷ []
 unfolding rule
 adtor_id y i asks body c = c.1
 
-sufs_id : (y : Terminal) (i : ℕ) (asks : List Item) (body : List Symbol) → Chosen (rule n.Sufs) name_seen y i asks body → body ≡ []
+pub sufs_id : (y : Terminal) (i : ℕ) (asks : List Item) (body : List Symbol) → Chosen (rule n.Sufs) name_seen y i asks body → body ≡ []
 unfolding rule
 sufs_id y i asks body c = c.1
 
-nothing_spans : (ts : List Terminal) (trees : Trees) (i j : ℕ) → Derives ts trees i [] j → j ≡ i
+pub nothing_spans : (ts : List Terminal) (trees : Trees) (i j : ℕ) → Derives ts trees i [] j → j ≡ i
 nothing_spans ts none i j d = sym d
 nothing_spans ts (token q next) i j d = absurd d
 nothing_spans ts (action q next) i j d = absurd d

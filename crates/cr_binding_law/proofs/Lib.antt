@@ -5,6 +5,7 @@ mod Asked
 mod Balanced
 mod Bounded
 mod Consistent
+mod Declarators
 mod Growth
 mod Jumping
 mod Keyed
