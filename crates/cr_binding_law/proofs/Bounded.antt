@@ -85,7 +85,7 @@ asked_bounded (Asked i answer ∷ asks) s b =
     asked_bounded asks (used _ s) (record { declared = b.declared; present = b.present; parameters = b.parameters })
 
 -- a node puts back what was pending, or leaves what is
-ended_bounded : (t : Source) (above m : NonTerm) (children : Trees) (before s : State) → IsBounded before → before.scopes ≤ s.scopes → IsBounded s → Reached before (ended above m children before s)
+pub ended_bounded : (t : Source) (above m : NonTerm) (children : Trees) (before s : State) → IsBounded before → before.scopes ≤ s.scopes → IsBounded s → Reached before (ended above m children before s)
 ended_bounded t above m children before s bb w b =
     let f : Flat s (ended_as m children before s) = ended_as_flat t m children before s in
     let c : IsBounded (ended_as m children before s) = f.bounded b in
@@ -304,7 +304,7 @@ asked_name (Due x ∷ asks) s = asked_name asks s
 asked_name (Asked i answer ∷ asks) s = asked_name asks (used _ s)
 
 module _ (t : Source) (ts : List Terminal) where
-  body_quiet : (m : NonTerm) (i : ℕ) (asks : List Item) (body : List Symbol) → keeps_name m ≡ true → Chosen (rule m) (token_at ts i) (token_at ts (i + 1)) i asks body → quiet body ≡ true
+  pub body_quiet : (m : NonTerm) (i : ℕ) (asks : List Item) (body : List Symbol) → keeps_name m ≡ true → Chosen (rule m) (token_at ts i) (token_at ts (i + 1)) i asks body → quiet body ≡ true
   body_quiet m i asks body h c =
       chosen_body quiet (rule m) (token_at ts i) (token_at ts (i + 1)) i asks body (by (keeps_name m) (all_bodies quiet (rule m)) h (rules_quiet m)) c
     where

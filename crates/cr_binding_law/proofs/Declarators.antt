@@ -48,7 +48,7 @@ prefix_fresh m n (x ∷ q) [] b w = by (eqb x n) refl
     by true e = let k : x ≡ n = eqb-true x n e in let l : x ≤ m = b.0 in absurd (omega (arith, k, l, w))
 prefix_fresh m n (x ∷ q) (y ∷ p) b w = ap (λ c. eqb x y && c) (prefix_fresh m n q p b.1 w)
 
-asked_scopes : (asks : List Item) (s : State) → (asked asks s).scopes ≡ s.scopes
+pub asked_scopes : (asks : List Item) (s : State) → (asked asks s).scopes ≡ s.scopes
 asked_scopes [] s = refl
 asked_scopes (Passed i ∷ asks) s = asked_scopes asks s
 asked_scopes (Due x ∷ asks) s = asked_scopes asks s

@@ -2,6 +2,7 @@ mod Acting
 mod Answering
 mod Apart
 mod Asked
+mod AsksUsed
 mod Balanced
 mod Bounded
 mod Consistent

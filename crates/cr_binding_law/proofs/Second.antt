@@ -82,7 +82,7 @@ abbrev specs_next : List Symbol → Bool
 specs_next (Non m ∷ ss) = is_specs m
 specs_next _ = false
 
-abbrev goes_second : List Symbol → Bool
+abbrev pub goes_second : List Symbol → Bool
 goes_second [] = false
 goes_second (Term x ∷ ss) = leads_next ss
 goes_second (Non m ∷ ss) = is_second m || (is_mod m && specs_next ss)
@@ -472,13 +472,13 @@ seconds_punct_extension n.Desigs h = cc
 seconds_punct_extension n.DesMore h = cc
 seconds_punct_extension n.Mod h = cc
 
-seconds : (x : Mark) (m : NonTerm) → is_second m ≡ true → all_second (seen_as x) (rule m) ≡ true
+pub seconds : (x : Mark) (m : NonTerm) → is_second m ≡ true → all_second (seen_as x) (rule m) ≡ true
 seconds Paren = seconds_paren
 seconds KeyParen = seconds_key_paren
 seconds Extension = seconds_extension
 seconds PunctExtension = seconds_punct_extension
 
-chosen_second : (x : Terminal) (rs : List Row) (i : ℕ) (asks : List Item) (body : List Symbol) → all_second x rs ≡ true → Chosen rs x name_seen i asks body → goes_second body ≡ true
+pub chosen_second : (x : Terminal) (rs : List Row) (i : ℕ) (asks : List Item) (body : List Symbol) → all_second x rs ≡ true → Chosen rs x name_seen i asks body → goes_second body ≡ true
 chosen_second x [] i asks body all h = absurd h
 chosen_second x (r ∷ rs) i asks body all h =
     let p = and_both (not (not_failed (verdict r.0 x name_seen)) || goes_second r.1) (all_second x rs) all in
