@@ -27,7 +27,7 @@ use Rattle.cr_binding.specs.BindingStays.{MeansAlike}
 use Rattle.cr_binding.proofs.Asking.{declaration_of}
 use Rattle.cr_binding.proofs.Renaming.{entry_found}
 use Rattle.cr_binding_law.specs.Renaming.{HasNoOwnMeaning, IsRenamed, AreEntities}
-use Rattle.cr_binding_law.specs.UnitStays.{IsLookedUpLater, IsParameterLater, IsSuppliedLater, AsksAreUsed}
+use Rattle.cr_binding_law.specs.AskedIdentifiers.{IsLookedUpLater, IsParameterLater, IsSuppliedLater, AsksAreUsed}
 use Rattle.cr_binding_law.proofs.Growth.{still_at}
 use Rattle.cr_binding.specs.Expressions.{is_function_name}
 use Rattle.cr_binding_law.proofs.Texts.{third_alike, third_by}

@@ -1,20 +1,14 @@
 -- Each identifier that was asked is used: it is looked up, declares a parameter or is supplied by the compiler.
-use Rattle.std.specs.Prelude.{◌≡◌, ◌⊎◌, ℕ, zero, suc, ◌+◌, ◌≤◌, Bool, true, false, cond, not, ◌&&◌, ◌||◌, eqb, if◌then◌else◌, Option, Some, None, unwrap_or, option_map, List, [], ◌∷◌, ◌++◌, map, length, take, codes, bytes_eq, Contains}
+use Rattle.std.specs.Prelude.{◌≡◌, ◌⊎◌, ℕ, ◌+◌, Bool, true, false, cond, not, ◌&&◌, ◌||◌, List, [], ◌∷◌, codes, bytes_eq, Contains}
 use Rattle.std.specs.Cmp.Lexicographic.{bytes_decides}
 use Rattle.std.proofs.Common.{refl, sym, ◌∙◌, ap, subst, inl, inr, arith}
-use Rattle.std.proofs.lemmas.Bool.{eqb-true}
-use Rattle.std.proofs.lemmas.List.{append-nil}
-use Rattle.std.proofs.lemmas.List.Elements.{Contains-append_cases}
-use Rattle.cr_base.specs.declared.Name.{Name}
 use Rattle.cr_base.specs.declared.token.TokKind.{TokKind}
 use Rattle.cr_base.specs.declared.token.TokKind.TheVariants as k
 use Rattle.cr_grammar.specs.declared.symbols.NonTerm.{NonTerm}
 use Rattle.cr_grammar.specs.declared.symbols.NonTerm.TheVariants as n
-use Rattle.cr_grammar.specs.declared.symbols.Action.{Action}
 use Rattle.cr_grammar.specs.declared.symbols.Action.TheVariants as a
 use Rattle.cr_grammar.specs.declared.symbols.Term.{Term as Word}
 use Rattle.cr_grammar.specs.declared.symbols.Term.TheVariants as w
-use Rattle.cr_grammar.specs.declared.symbols.Guard.{Guard}
 use Rattle.cr_grammar.specs.declared.symbols.Guard.TheVariants.{Else, First, Both}
 use Rattle.cr_grammar.specs.declared.symbols.Symbol.{Symbol}
 use Rattle.cr_grammar.specs.declared.symbols.Symbol.TheVariants.{Term, Non, Act}
@@ -22,21 +16,13 @@ use Rattle.cr_grammar.specs.Grammar.{Row, rule}
 use Rattle.cr_grammar.specs.Spellings.{spelled}
 use Rattle.cr_ll.specs.declared.guards.Verdict.{Verdict}
 use Rattle.cr_ll.specs.declared.guards.Verdict.TheVariants.{Holds, Fails, Asks}
-use Rattle.cr_ll.specs.Guards.{Terminal, token_at, is_name, is_spelled_kind, is_spelled, is_among, fits, meets, after_first, verdict, ask_at}
-use Rattle.cr_ll.specs.Derivation.{Item, Passed, Due, Asked, Trees, none, token, action, node, ChosenBy, Chosen, Derives}
-use Rattle.cr_ll.specs.Laws.{unit}
-use Rattle.cr_scope.specs.declared.Space.TheVariants as space
-use Rattle.cr_binding.specs.Source.{Source, token_of, is_identifier}
-use Rattle.cr_binding.specs.State.{Declaration, LookedUp, IsParameter, WasAsked, State, start}
-use Rattle.cr_binding.specs.Binding.{bound}
-use Rattle.cr_binding.specs.WellFormed.{terminals_of}
-use Rattle.cr_binding_law.specs.UnitStays.{IsLookedUpLater, IsParameterLater, IsSuppliedLater, AsksAreUsed}
-use Rattle.cr_binding_law.proofs.Parsing.{LooksLike, terminal_kind, chosen_alike}
+use Rattle.cr_ll.specs.Guards.{Terminal, is_name, is_spelled_kind, is_spelled, is_among, fits, after_first, verdict, ask_at}
+use Rattle.cr_ll.specs.Derivation.{Item, Asked, Trees, none, token, action, node, ChosenBy, Chosen, Derives}
+use Rattle.cr_binding_law.proofs.Parsing.{LooksLike}
 use Rattle.cr_binding_law.proofs.Consistent.{head_or_tail}
-use Rattle.cr_binding_law.proofs.Growth.{front_taken}
 use Rattle.cr_binding_law.proofs.Balanced.{and_both}
-use Rattle.cr_binding_law.proofs.Leading.{name_seen, is_lead, NoColon, Named}
-use Rattle.cr_binding_law.proofs.Second.{Mark, Paren, KeyParen, Extension, PunctExtension, seen_as, is_second, IsMarked, at_mark}
+use Rattle.cr_binding_law.proofs.Leading.{name_seen, is_lead}
+use Rattle.cr_binding_law.proofs.Second.{Mark, Paren, KeyParen, Extension, PunctExtension, seen_as, is_second}
 
 -- ---- which guards ask
 
@@ -486,9 +472,9 @@ asks_tell (r ∷ rs) x y i asks body m h p b c =
   where
     head : (ahead : ℕ) (c : Bool) (more : List Item) → verdict r.0 x y ≡ Asks ahead → Contains (Asked (ask_at i ahead) c ∷ more) (Asked p b) → ((Contains more (Asked p b)) → Tells (r ∷ rs) x y i p) → Tells (r ∷ rs) x y i p
     head ahead c more e there rest = elim (head_or_tail (Asked (ask_at i ahead) c) (Asked p b) more there) [
-        | inl q ↦ subst (Tells (r ∷ rs) x y i) (asked_one (ask_at i ahead) p c b q) (own_tells r rs x y i ahead m e)
-        | inr d ↦ rest d
-      ]
+      | inl q ↦ subst (Tells (r ∷ rs) x y i) (asked_one (ask_at i ahead) p c b q) (own_tells r rs x y i ahead m e)
+      | inr d ↦ rest d
+    ]
 
     by : (v : Verdict) → verdict r.0 x y ≡ v → ChosenBy v r (λ more. Chosen rs x y i more body) i asks body → ((more : List Item) → Chosen rs x y i more body → Contains more (Asked p b) → Tells (r ∷ rs) x y i p) → Tells (r ∷ rs) x y i p
     by Holds e h later = in_none asks (Asked p b) h.0 c

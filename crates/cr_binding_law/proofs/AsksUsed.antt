@@ -1,5 +1,5 @@
 -- Each identifier that was asked is used: it is looked up, declares a parameter or is supplied by the compiler.
-use Rattle.std.specs.Prelude.{◌≡◌, ◌⊎◌, ℕ, zero, suc, ◌+◌, ◌≤◌, Bool, true, false, not, ◌&&◌, ◌||◌, if◌then◌else◌, Option, Some, None, unwrap_or, List, [], ◌∷◌, ◌++◌, map, length, Contains}
+use Rattle.std.specs.Prelude.{◌≡◌, ◌⊎◌, ℕ, suc, ◌+◌, ◌≤◌, Bool, true, false, not, ◌&&◌, ◌||◌, if◌then◌else◌, Option, Some, None, unwrap_or, List, [], ◌∷◌, ◌++◌, map, length, Contains}
 use Rattle.std.specs.List.{list_any}
 use Rattle.std.proofs.Common.{refl, sym, ◌∙◌, ap, subst, inl, inr, arith}
 use Rattle.std.proofs.lemmas.List.Elements.{Contains-append_cases}
@@ -22,19 +22,19 @@ use Rattle.cr_scope.specs.declared.Linkage.TheVariants as linkage
 use Rattle.cr_scope.specs.Redeclaration.{clashes}
 use Rattle.cr_types.specs.Types.{CType}
 use Rattle.cr_typing.specs.ExpressionTypes.{decayed}
-use Rattle.cr_binding.specs.Source.{Source, token_of, is_identifier}
-use Rattle.cr_binding.specs.State.{Declaration, Use, IsParameter, WasAsked, State, start}
+use Rattle.cr_binding.specs.Source.{Source, is_identifier}
+use Rattle.cr_binding.specs.State.{Declaration, IsParameter, WasAsked, State, start}
 use Rattle.cr_binding.specs.Entities.{entry}
 use Rattle.cr_binding.specs.Declaring.{failed, used, declaration, declare_parameter}
 use Rattle.cr_binding.specs.Specifying.{declared_type}
 use Rattle.cr_binding.specs.Scoping.{next_scope, unless_failed}
 use Rattle.cr_binding.specs.Actions.{passed, acted}
-use Rattle.cr_binding.specs.Binding.{ended_as, ended, asked, goes_on, walk, bound}
+use Rattle.cr_binding.specs.Binding.{ended, asked, goes_on, walk, bound}
 use Rattle.cr_binding.specs.WellFormed.{IsWellFormed, terminals_of}
 use Rattle.cr_binding.specs.BindingGrows.{Extends, Grows}
 use Rattle.cr_binding.proofs.Done.{none_before, unless_gives, goes_on_gives}
 use Rattle.cr_binding.proofs.Growing.{itself, followed, binding_grows}
-use Rattle.cr_binding_law.specs.UnitStays.{IsLookedUpLater, IsParameterLater, IsSuppliedLater, AsksAreUsed}
+use Rattle.cr_binding_law.specs.AskedIdentifiers.{IsParameterLater, AsksAreUsed}
 use Rattle.cr_binding_law.proofs.Consistent.{head_or_tail}
 use Rattle.cr_binding_law.proofs.Growth.{last_there}
 use Rattle.cr_binding_law.proofs.Parsing.{LooksLike, terminal_kind, chosen_alike}
@@ -43,7 +43,7 @@ use Rattle.cr_binding_law.proofs.Scoped.{Flat, AsksStay, IsBounded, Effect, Ente
 use Rattle.cr_binding_law.proofs.Bounded.{Reached, is_quiet, stays_below, keeps_name, quiet_name, node_name, walk_name, body_quiet, asked_name, asked_bounded, token_bounded, action_bounded, walk_bounded, ended_bounded, start_bounded}
 use Rattle.cr_binding_law.proofs.Leading.{name_seen, is_lead, NoColon, Named, below_sound, below_grows, lead_below}
 use Rattle.cr_binding_law.proofs.Second.{Mark, seen_as, is_second, IsMarked, at_mark, seconds, chosen_second, second}
-use Rattle.cr_binding_law.proofs.Asked.{Tells, is_items, is_pdtor, is_adtor, rules_first, rules_second, rules_marks, asks_tell, items_colon, in_none, is_paren, nested_pdtor, nested_adtor, AskedBehind, pdtor_body, adtor_body, first_asks, second_asks}
+use Rattle.cr_binding_law.proofs.Asked.{Tells, is_items, is_pdtor, is_adtor, rules_first, rules_second, rules_marks, asks_tell, items_colon, pdtor_body, adtor_body, first_asks, second_asks}
 use Rattle.cr_binding_law.proofs.Declarators.{IsUsed, named_used, inside_used, sufs_named, adtor_no, pdtor_name, asked_scopes}
 
 -- ---- the grammar
@@ -198,9 +198,9 @@ asked_true p q b c e = let x : p ≡ q = cc in let y : b ≡ c = cc in (x, y)
 
 only_ask : (p q : ℕ) (b c : Bool) (asks : List Item) → asks ≡ Asked q c ∷ [] → Contains asks (Asked p b) → (q ≡ p) × (c ≡ b)
 only_ask p q b c asks e there = elim (head_or_tail (Asked q c) (Asked p b) [] (subst (λ l. Contains l (Asked p b)) e there)) [
-    | inl h ↦ asked_true q p c b h
-    | inr h ↦ absurd (omega (arith, h.1))
-  ]
+  | inl h ↦ asked_true q p c b h
+  | inr h ↦ absurd (omega (arith, h.1))
+]
 
 -- ---- asks
 
@@ -225,11 +225,11 @@ asked_new (Asked i b ∷ asks) s p path before answer there =
     own : Contains s.uses (WasAsked p path before answer) ⊎ Contains (WasAsked i s.present (length s.declarations) b ∷ []) (WasAsked p path before answer) → Contains s.uses (WasAsked p path before answer) ⊎ IsNew (Asked i b ∷ asks) s p path before answer
     own (inl h) = inl h
     own (inr h) = elim (head_or_tail (WasAsked i s.present (length s.declarations) b) (WasAsked p path before answer) [] h) [
-        | inl e ↦
-            (let q = was_one i p s.present path (length s.declarations) before b answer e in
-            inr ((0, omega arith, ap (λ z. Asked z b) q.0 ∙ ap (λ z. Asked p z) q.3), q.1, q.2))
-        | inr e ↦ absurd (omega (arith, e.1))
-      ]
+      | inl e ↦
+          (let q = was_one i p s.present path (length s.declarations) before b answer e in
+          inr ((0, omega arith, ap (λ z. Asked z b) q.0 ∙ ap (λ z. Asked p z) q.3), q.1, q.2))
+      | inr e ↦ absurd (omega (arith, e.1))
+    ]
 
     by : Contains (s.uses ++ WasAsked i s.present (length s.declarations) b ∷ []) (WasAsked p path before answer) ⊎ IsNew asks (used (WasAsked i s.present (length s.declarations) b) s) p path before answer → Contains s.uses (WasAsked p path before answer) ⊎ IsNew (Asked i b ∷ asks) s p path before answer
     by (inl h) =
@@ -369,9 +369,9 @@ module _ (t : Source) (end : State) where
 
   since_on : (o : Bool) (s0 s y : State) → AsksStay s y → (o ≡ true → y.pending.name ≡ s.pending.name) → Since o s0 s → Since o s0 y
   since_on o s0 s y stays e h p path before answer there = elim (h p path before answer (stays p path before answer there)) [
-      | inl k ↦ inl k
-      | inr k ↦ elim k [ inl u ↦ inr (inl u) | inr v ↦ inr (inr (waits_on o answer s y p e v)) ]
-    ]
+    | inl k ↦ inl k
+    | inr k ↦ elim k [ inl u ↦ inr (inl u) | inr v ↦ inr (inr (waits_on o answer s y p e v)) ]
+  ]
 
   param_used : (p : ℕ) (c : CType) (s : State) → (declare_parameter t (Some p) c s).fault ≡ None → Grows (declare_parameter t (Some p) c s) end → IsParameterLater end p false
   param_used p c s h g = by (list_any (clashes (entry t d)) (map (entry t) s.declarations)) h g
@@ -392,9 +392,9 @@ module _ (t : Source) (end : State) where
 
   param_since : (o : Bool) (m : NonTerm) (first : ℕ) (s0 s : State) → (acted t m first a.Param s).fault ≡ None → Grows (acted t m first a.Param s) end → AsksStay s (acted t m first a.Param s) → Since o s0 s → Since false s0 (acted t m first a.Param s)
   param_since o m first s0 s sound g stays h p path before answer there = elim (h p path before answer (stays p path before answer there)) [
-      | inl k ↦ inl k
-      | inr k ↦ elim k [ inl u ↦ inr (inl u) | inr v ↦ inr (inl (by o v)) ]
-    ]
+    | inl k ↦ inl k
+    | inr k ↦ elim k [ inl u ↦ inr (inl u) | inr v ↦ inr (inl (by o v)) ]
+  ]
     where
       by : (o : Bool) → Waits o answer s p → IsUsed t end p path before answer
       by false v = absurd v
@@ -539,8 +539,8 @@ module _ (t : Source) (end : State) where
       let r : Since (out false d.1) u below = used_along children q None i d.1 d.2 false u u d.4 c.0 ub.0 (λ p path before answer there. inl there) below_clear below_grown in
       let own = own_asks q x asks children i d.1 d.2 s d.3 d.4 below_clear below_grown b ((whole m first (node q asks children next) s g).declarations) in
       let keeps : o ≡ true → v.pending.name ≡ s.pending.name = λ z.
-          let k = and_both (stays_below x) (not (is_pdtor x)) (implied o (stays_below x && not (is_pdtor x)) p.0 z) in
-          node_name t (terminals_of t) m q children s below (ap stays_below d.0 ∙ k.0) (λ w. walk_name t (terminals_of t) children q None i d.1 d.2 u d.4 (body_quiet t (terminals_of t) x i asks d.1 (ap keeps_name (sym d.0) ∙ w) d.3) below_clear ∙ asked_name asks s) in
+      let k = and_both (stays_below x) (not (is_pdtor x)) (implied o (stays_below x && not (is_pdtor x)) p.0 z) in
+      node_name t (terminals_of t) m q children s below (ap stays_below d.0 ∙ k.0) (λ w. walk_name t (terminals_of t) children q None i d.1 d.2 u d.4 (body_quiet t (terminals_of t) x i asks d.1 (ap keeps_name (sym d.0) ∙ w) d.3) below_clear ∙ asked_name asks s) in
       let w : Since (o || is_pdtor x) s0 v = node_since m q x asks children s s0 o d.1 d.0 c.1 r own since keeps in
       let bounds : IsBounded y = node_bounded m q asks children s y e below_clear b in
       used_along next m first d.2 ss j (o || is_pdtor x) s0 y d.5 p.1 bounds (subst (Since (o || is_pdtor x) s0) (sym e) w) sound g

@@ -1,5 +1,5 @@
 -- Scopes on paths were entered before, and few nodes leave another name to be declared.
-use Rattle.std.specs.Prelude.{◌≡◌, ◌⊎◌, ℕ, zero, suc, ◌+◌, ◌-◌, ◌≤◌, Bool, true, false, not, ◌&&◌, ◌||◌, if◌then◌else◌, Option, Some, None, unwrap_or, List, [], ◌∷◌, ◌++◌, length, take, Contains}
+use Rattle.std.specs.Prelude.{◌≡◌, ◌⊎◌, ℕ, zero, suc, ◌+◌, ◌-◌, ◌≤◌, Bool, true, false, not, ◌&&◌, ◌||◌, if◌then◌else◌, Option, Some, None, unwrap_or, List, [], ◌∷◌, ◌++◌, length, take}
 use Rattle.std.proofs.Common.{refl, sym, ◌∙◌, ap, subst, inl, inr, arith}
 use Rattle.cr_grammar.specs.declared.symbols.NonTerm.{NonTerm}
 use Rattle.cr_grammar.specs.declared.symbols.NonTerm.TheVariants as n
@@ -10,14 +10,14 @@ use Rattle.cr_grammar.specs.Grammar.{rule}
 use Rattle.cr_ll.specs.Guards.{Terminal, token_at}
 use Rattle.cr_ll.specs.Derivation.{Item, Passed, Due, Asked, Trees, none, token, action, node, Chosen, Derives}
 use Rattle.cr_binding.specs.Source.{Source}
-use Rattle.cr_binding.specs.State.{Declaration, WasAsked, State, start}
+use Rattle.cr_binding.specs.State.{State, start}
 use Rattle.cr_binding.specs.Declaring.{used}
 use Rattle.cr_binding.specs.Scoping.{next_scope, unless_failed}
 use Rattle.cr_binding.specs.Actions.{passed, acted}
-use Rattle.cr_binding.specs.Binding.{has_own_pending, leaves_values, ended_as, ended, asked, goes_on, walk}
+use Rattle.cr_binding.specs.Binding.{has_own_pending, ended_as, ended, asked, goes_on, walk}
 use Rattle.cr_binding.proofs.Done.{none_before, unless_gives, goes_on_gives, ended_as_fault}
 use Rattle.cr_binding_law.proofs.Balanced.{all_bodies, and_both, chosen_body}
-use Rattle.cr_binding_law.proofs.Scoped.{Flat, Rest, IsBounded, AllBelow, Effect, Enters, Reenters, Rises, Labels, Clears, Names, Rests, effect, Does, acted_does, passed_flat, ended_as_flat, rest_of}
+use Rattle.cr_binding_law.proofs.Scoped.{Flat, IsBounded, AllBelow, Effect, Enters, Reenters, Rises, Labels, Clears, Names, Rests, effect, Does, acted_does, passed_flat, ended_as_flat}
 
 -- ---- bounds
 
@@ -43,12 +43,14 @@ Reached s y = IsBounded y × (s.scopes ≤ y.scopes)
 
 does_bound : (e : Effect) (s y : State) → Does e s y → IsBounded s → Reached s y
 does_bound Enters s y f b =
-    let c : y.scopes ≡ next_scope s = f.2.scopes in
-    (f.2.bounded (record {
-      declared = λ d there. more_below s.scopes (next_scope s) d.path (omega arith) (b.declared d there);
-      present = below_end (next_scope s) (next_scope s) s.present (more_below s.scopes (next_scope s) s.present (omega arith) b.present) (omega arith);
-      parameters = λ k h. by f.1 k h;
-    }), omega (arith, c))
+    let c : y.scopes ≡ next_scope s = f.2.scopes in (
+      f.2.bounded (record {
+        declared = λ d there. more_below s.scopes (next_scope s) d.path (omega arith) (b.declared d there);
+        present = below_end (next_scope s) (next_scope s) s.present (more_below s.scopes (next_scope s) s.present (omega arith) b.present) (omega arith);
+        parameters = λ k h. by f.1 k h;
+      }),
+      omega (arith, c),
+    )
   where
     some_one : {a k : ℕ} → Some a ≡ Some k → a ≡ k
     some_one e = cc

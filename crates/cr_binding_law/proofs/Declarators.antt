@@ -1,5 +1,5 @@
 -- Asks in declarators of parameters and type names.
-use Rattle.std.specs.Prelude.{◌≡◌, ◌⊎◌, ℕ, zero, suc, ◌+◌, ◌≤◌, Bool, true, false, cond, ◌&&◌, eqb, Option, Some, None, unwrap_or, option_map, List, [], ◌∷◌, ◌++◌, map, length, take, Contains}
+use Rattle.std.specs.Prelude.{◌≡◌, ◌⊎◌, ℕ, suc, ◌+◌, ◌≤◌, Bool, true, false, cond, ◌&&◌, eqb, Option, Some, None, unwrap_or, option_map, List, [], ◌∷◌, ◌++◌, map, length, Contains}
 use Rattle.std.proofs.Common.{refl, sym, ◌∙◌, ap, subst, inl, inr, arith}
 use Rattle.std.proofs.lemmas.Bool.{eqb-true}
 use Rattle.std.proofs.lemmas.List.{append-nil}
@@ -11,27 +11,27 @@ use Rattle.cr_grammar.specs.declared.symbols.Term.TheVariants as w
 use Rattle.cr_grammar.specs.declared.symbols.Symbol.{Symbol}
 use Rattle.cr_grammar.specs.declared.symbols.Symbol.TheVariants.{Term, Non, Act}
 use Rattle.cr_grammar.specs.Grammar.{rule}
-use Rattle.cr_ll.specs.declared.guards.Verdict.TheVariants.{Holds, Fails, Asks}
+use Rattle.cr_ll.specs.declared.guards.Verdict.TheVariants.{Holds, Fails}
 use Rattle.cr_ll.specs.Guards.{Terminal, token_at, meets}
 use Rattle.cr_ll.specs.Derivation.{Item, Passed, Due, Asked, Trees, none, token, action, node, Chosen, Derives}
 use Rattle.cr_scope.specs.declared.Space.{Space}
 use Rattle.cr_scope.specs.declared.Space.TheVariants as space
-use Rattle.cr_scope.specs.Declarations.{Entry, is_prefix, same_space, same_name, depth, depth_seen, last_deepest}
+use Rattle.cr_scope.specs.Declarations.{is_prefix, same_space, same_name, depth, depth_seen, last_deepest}
 use Rattle.cr_binding.specs.Source.{Source, name_at}
 use Rattle.cr_binding.specs.State.{Declaration, LookedUp, State}
 use Rattle.cr_binding.specs.Entities.{entry, meaning}
 use Rattle.cr_binding.specs.Declaring.{used}
 use Rattle.cr_binding.specs.Scoping.{next_scope, entered_in, unless_failed}
 use Rattle.cr_binding.specs.Actions.{passed, acted}
-use Rattle.cr_binding.specs.Binding.{ended_as, ended, asked, goes_on, walk}
+use Rattle.cr_binding.specs.Binding.{ended, asked, goes_on, walk}
 use Rattle.cr_binding.specs.WellFormed.{terminals_of}
 use Rattle.cr_binding.specs.BindingGrows.{Extends, Grows}
 use Rattle.cr_binding.proofs.Done.{none_before, unless_gives, goes_on_gives, ended_as_fault}
-use Rattle.cr_binding_law.specs.UnitStays.{IsLookedUpLater, IsParameterLater, IsSuppliedLater}
-use Rattle.cr_binding_law.proofs.Parsing.{LooksLike, chosen_alike, meets_alike}
+use Rattle.cr_binding_law.specs.AskedIdentifiers.{IsLookedUpLater, IsParameterLater, IsSuppliedLater}
+use Rattle.cr_binding_law.proofs.Parsing.{chosen_alike, meets_alike}
 use Rattle.cr_binding_law.proofs.Growth.{front_taken}
 use Rattle.cr_binding_law.proofs.Balanced.{asked_present, asked_declarations}
-use Rattle.cr_binding_law.proofs.Scoped.{Flat, IsBounded, AllBelow, entered_at, passed_flat, ended_as_flat, acted_does}
+use Rattle.cr_binding_law.proofs.Scoped.{Flat, IsBounded, AllBelow, passed_flat}
 use Rattle.cr_binding_law.proofs.Bounded.{walk_name}
 use Rattle.cr_binding_law.proofs.Leading.{name_seen, Named, passed_declarations, below_sound, below_grows}
 use Rattle.cr_binding_law.proofs.Second.{IsMarked, at_mark, node_next}

@@ -1,5 +1,5 @@
 -- What an identifier that begins a node means, where it may be a typedef name: it is looked up, or supplied by the compiler.
-use Rattle.std.specs.Prelude.{◌≡◌, ◌⊎◌, ℕ, zero, suc, ◌+◌, Bool, true, false, cond, not, ◌&&◌, ◌||◌, Option, Some, None, unwrap_or, if◌then◌else◌, List, [], ◌∷◌, length, Contains}
+use Rattle.std.specs.Prelude.{◌≡◌, ◌⊎◌, ℕ, ◌+◌, Bool, true, false, cond, not, ◌&&◌, ◌||◌, Option, Some, None, if◌then◌else◌, List, [], ◌∷◌, length, Contains}
 use Rattle.std.proofs.Common.{refl, sym, ◌∙◌, ap, subst, inl, inr}
 use Rattle.cr_base.specs.declared.cause.IllCause.TheVariants as cause
 use Rattle.cr_base.specs.declared.token.TokKind.TheVariants as k
@@ -22,7 +22,7 @@ use Rattle.cr_scope.specs.declared.Space.TheVariants as space
 use Rattle.cr_decl.specs.declared.SpecWord.{SpecWord}
 use Rattle.cr_decl.specs.declared.SpecWord.TheVariants as word
 use Rattle.cr_decl.specs.Specifiers.{may_follow, with_word}
-use Rattle.cr_binding.specs.Source.{Source, token_of, text_at, is_identifier, is_built_in}
+use Rattle.cr_binding.specs.Source.{Source, text_at, is_identifier, is_built_in}
 use Rattle.cr_binding.specs.State.{nothing_pending, Declaration, LookedUp, IsBuiltIn, State}
 use Rattle.cr_binding.specs.Entities.{meaning}
 use Rattle.cr_binding.specs.Declaring.{failed, declaration_at, meaning_here, looked_up}
@@ -34,7 +34,7 @@ use Rattle.cr_binding.specs.Binding.{ended, asked, goes_on, walk}
 use Rattle.cr_binding.specs.WellFormed.{terminals_of}
 use Rattle.cr_binding.specs.BindingGrows.{Grows}
 use Rattle.cr_binding.proofs.Done.{none_before, unless_gives, goes_on_gives, ended_as_fault}
-use Rattle.cr_binding.proofs.Growing.{followed, binding_grows, ended_grows, acted_grows}
+use Rattle.cr_binding.proofs.Growing.{followed, binding_grows, ended_grows}
 use Rattle.cr_binding_law.proofs.Growth.{last_there}
 use Rattle.cr_binding_law.proofs.Parsing.{LooksLike, fits_alike}
 use Rattle.cr_binding_law.proofs.Balanced.{and_both, asked_present, asked_declarations}

@@ -74,10 +74,10 @@ same s x p n d u c q =
       name = n;
       scopes = c;
       bounded = λ b. record {
-          declared = λ e there. subst (λ k. AllBelow k e.path) (sym c) (b.declared e (subst (λ ds. Contains ds e) d there));
-          present = subst (λ k. AllBelow k x.present) (sym c) (subst (λ l. AllBelow s.scopes l) (sym p) b.present);
-          parameters = λ k h. subst (λ l. k ≤ l) (sym c) (b.parameters k (sym q ∙ h));
-        };
+        declared = λ e there. subst (λ k. AllBelow k e.path) (sym c) (b.declared e (subst (λ ds. Contains ds e) d there));
+        present = subst (λ k. AllBelow k x.present) (sym c) (subst (λ l. AllBelow s.scopes l) (sym p) b.present);
+        parameters = λ k h. subst (λ l. k ≤ l) (sym c) (b.parameters k (sym q ∙ h));
+      };
       labels = λ l e there. l e (subst (λ ds. Contains ds e) d there);
       asks = λ i path before answer there. subst (λ us. Contains us (WasAsked i path before answer)) u there;
     }
@@ -132,9 +132,9 @@ added_bounded d s low b =
     below : (e : Declaration) → Contains s.declarations e ⊎ Contains (d ∷ []) e → AllBelow s.scopes e.path
     below e (inl there) = b.declared e there
     below e (inr there) = elim (head_or_tail d e [] there) [
-        | inl k ↦ subst (λ (x : Declaration). AllBelow s.scopes x.path) k (low s.scopes b.present)
-        | inr k ↦ absurd (omega (arith, k.1))
-      ]
+      | inl k ↦ subst (λ (x : Declaration). AllBelow s.scopes x.path) k (low s.scopes b.present)
+      | inr k ↦ absurd (omega (arith, k.1))
+    ]
 
 -- a declaration that is no label, or a label in a function
 added_flat : (d : Declaration) (s : State) → ((n : ℕ) → AllBelow n s.present → AllBelow n d.path) → (d.space ≡ space.Label → is_file_scope d.path ≡ false) → Flat s (record s { declarations = s.declarations ++ d ∷ [] })
@@ -422,10 +422,10 @@ module _ (t : Source) where
         name = f.name;
         scopes = f.scopes;
         bounded = λ b. record {
-            declared = λ e there. subst (λ k. AllBelow k e.path) (sym f.scopes) (b.declared e (subst (λ ds. Contains ds e) (jumps_same s.jumps s).0 there));
-            present = subst (λ k. AllBelow k (take (length x.present - 1) x.present)) (sym f.scopes) (subst (λ p. AllBelow s.scopes (take (length p - 1) p)) (sym f.present) b.present);
-            parameters = λ k h. subst (λ l. k ≤ l) (sym f.scopes) (b.parameters k (sym (jumps_same s.jumps s).1 ∙ h));
-          };
+          declared = λ e there. subst (λ k. AllBelow k e.path) (sym f.scopes) (b.declared e (subst (λ ds. Contains ds e) (jumps_same s.jumps s).0 there));
+          present = subst (λ k. AllBelow k (take (length x.present - 1) x.present)) (sym f.scopes) (subst (λ p. AllBelow s.scopes (take (length p - 1) p)) (sym f.present) b.present);
+          parameters = λ k h. subst (λ l. k ≤ l) (sym f.scopes) (b.parameters k (sym (jumps_same s.jumps s).1 ∙ h));
+        };
         labels = f.labels;
         asks = f.asks;
       }

@@ -1,8 +1,6 @@
 -- What an identifier behind a parenthesis or `__extension__` means, where it may be a typedef name.
-use Rattle.std.specs.Prelude.{◌≡◌, ◌⊎◌, ℕ, zero, suc, ◌+◌, Bool, true, false, cond, not, ◌&&◌, ◌||◌, Option, Some, None, unwrap_or, List, [], ◌∷◌, codes, bytes_eq}
+use Rattle.std.specs.Prelude.{◌≡◌, ℕ, ◌+◌, Bool, true, false, not, ◌&&◌, ◌||◌, Option, Some, None, unwrap_or, List, [], ◌∷◌, codes}
 use Rattle.std.proofs.Common.{refl, sym, ◌∙◌, ap, subst, inl, inr}
-use Rattle.std.specs.Cmp.Lexicographic.{bytes_decides}
-use Rattle.cr_base.specs.declared.token.TokKind.{TokKind}
 use Rattle.cr_base.specs.declared.token.TokKind.TheVariants as k
 use Rattle.cr_grammar.specs.declared.symbols.NonTerm.{NonTerm}
 use Rattle.cr_grammar.specs.declared.symbols.NonTerm.TheVariants as n
@@ -13,7 +11,7 @@ use Rattle.cr_grammar.specs.Grammar.{Row, rule}
 use Rattle.cr_grammar.specs.Spellings.{spelled}
 use Rattle.cr_ll.specs.declared.guards.Verdict.{Verdict}
 use Rattle.cr_ll.specs.declared.guards.Verdict.TheVariants.{Holds, Fails, Asks}
-use Rattle.cr_ll.specs.Guards.{Terminal, token_at, is_spelled_kind, is_spelled, verdict}
+use Rattle.cr_ll.specs.Guards.{Terminal, token_at, verdict}
 use Rattle.cr_ll.specs.Derivation.{Item, Trees, none, token, action, node, ChosenBy, Chosen, Derives}
 use Rattle.cr_binding.specs.Source.{Source, is_identifier}
 use Rattle.cr_binding.specs.State.{nothing_pending, State}

@@ -14,6 +14,7 @@ use Rattle.cr_binding.specs.WellFormed.{AreAnswered}
 use Rattle.cr_binding_law.specs.ConsistentUnits.{IsConsistent, LabelsAreInFunctions}
 use Rattle.cr_binding_law.specs.UnitStays.{RenamingKeepsUnits}
 use Rattle.cr_binding_law.proofs.Answering.{answers_alike}
+use Rattle.cr_binding_law.proofs.AsksUsed.{asks_are_used}
 use Rattle.cr_binding_law.proofs.Balanced.{labels_stand_in_functions}
 use Rattle.cr_binding_law.proofs.Consistent.{units_are_consistent}
 use Rattle.cr_binding_law.specs.RenamingKeys.{KeysAreEntities, KeysAreFree, RenamingOfKeysKeepsUnits}
@@ -30,12 +31,12 @@ label_lengths : (t : Source) (s : State) → IsConsistent t s → LabelsAreInFun
 label_lengths t s c labels d there h = just_one d.path (labels d there h) (c.labels d there h)
 
 pub renaming_keeps_units : Laws → BindingStays → ActionsAreDone → RenamingKeepsUnits
-renaming_keeps_units law stays done class old new t u tree ren well ents free used =
+renaming_keeps_units law stays done class old new t u tree ren well ents free =
     record {
       well_formed = record {
         spans = well.spans;
         derives = renamed_derives class old new t u ren tree unit well.spans well.derives;
-        answered = subst (λ s. AreAnswered u s) (sym same) (answers_alike law class old new t u ren (bound t tree) ents free c.accepted used well.answered);
+        answered = subst (λ s. AreAnswered u s) (sym same) (answers_alike law class old new t u ren (bound t tree) ents free c.accepted (asks_are_used t tree well) well.answered);
         sound = ap (λ (s : State). s.fault) same ∙ well.sound;
       };
       binding = same;
@@ -50,5 +51,5 @@ renaming_keeps_units law stays done class old new t u tree ren well ents free us
         renamed_bound law stays done class old new t u tree ren well.sound ents free c.members (label_lengths t (bound t tree) c (labels_stand_in_functions t tree well))
 
 pub renaming_of_keys_keeps_units : RenamingKeepsUnits → KeysAreEntities → KeysAreFree → RenamingOfKeysKeepsUnits
-renaming_of_keys_keeps_units keeps entities free keys class old new unit_number t u tree ren well of none used =
-    keeps class old new t u tree ren well (entities keys class unit_number t tree of) (free keys class old new unit_number t tree of ren.spelled none) used
+renaming_of_keys_keeps_units keeps entities free keys class old new unit_number t u tree ren well of none =
+    keeps class old new t u tree ren well (entities keys class unit_number t tree of) (free keys class old new unit_number t tree of ren.spelled none)

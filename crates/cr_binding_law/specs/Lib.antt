@@ -1,3 +1,4 @@
+pub mod AskedIdentifiers
 pub mod ConsistentUnits
 pub mod Renaming
 pub mod RenamingKeys

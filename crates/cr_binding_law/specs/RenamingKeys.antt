@@ -16,7 +16,7 @@ use Rattle.cr_binding.specs.WellFormed.{IsWellFormed}
 use Rattle.cr_binding.specs.FreeUnits.{IsFreeUnit}
 use Rattle.cr_binding.specs.MembersStay.{AreSpelled}
 use Rattle.cr_binding_law.specs.Renaming.{IsRenamed, AreEntities}
-use Rattle.cr_binding_law.specs.UnitStays.{AsksAreUsed, MeansTheSame}
+use Rattle.cr_binding_law.specs.UnitStays.{MeansTheSame}
 
 -- The tokens of a class are those that mean an entity of some keys; what the compiler supplies has none of these.
 pub record AreTokensOf (keys : Key → Bool) (class : ℕ → Bool) (unit : ℕ) (t : Source) (s : State) : Type 0 where
@@ -51,5 +51,4 @@ RenamingOfKeysKeepsUnits =
     → IsWellFormed t tree
     → AreTokensOf keys class unit t (bound t tree)
     → HaveNoConflict keys unit t (bound t tree) old new
-    → AsksAreUsed t (bound t tree)
     → MeansTheSame t u tree

@@ -1,6 +1,7 @@
 //! The law that a renaming keeps what the identifiers of a whole translation unit mean.
 #![tactic(auto)]
 
+ghost use Rattle.cr_binding_law.specs.AskedIdentifiers.{AskedIdentifiersAreUsed};
 ghost use Rattle.cr_binding_law.specs.ConsistentUnits.{UnitsAreConsistent, LabelsStandInFunctions};
 ghost use Rattle.cr_binding_law.specs.RenamingKeys.{KeysAreEntities, KeysAreFree, RenamingOfKeysKeepsUnits};
 ghost use Rattle.cr_binding_law.specs.UnitStays.{RenamingKeepsUnits};
@@ -57,3 +58,11 @@ pub fn renaming_of_keys_keeps_units()
     renaming_keeps_units();
     keys_are_whole_entities();
 }
+
+/// In a well-formed unit an identifier of which it was asked whether it is a typedef name is looked up in the scope of the
+/// ask or inside it, or it isn't one and declares a parameter, or it is supplied by the compiler.
+///
+/// It does nothing: its contract is the law.
+pub fn asked_identifiers_are_used()
+    ensures { AskedIdentifiersAreUsed }
+{}
