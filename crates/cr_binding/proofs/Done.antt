@@ -16,7 +16,7 @@ use Rattle.cr_binding.specs.SoundUnits.{IsDone, ActionsAreDone}
 use Rattle.cr_binding.proofs.Growing.{binding_grows, fault_stays, followed, itself, ended_grows}
 
 -- no fault in the end, so none at first
-none_before : (t : Source) (m : NonTerm) (first : Option ℕ) (trees : Trees) (s : State) → (walk t m first trees s).fault ≡ None → s.fault ≡ None
+pub none_before : (t : Source) (m : NonTerm) (first : Option ℕ) (trees : Trees) (s : State) → (walk t m first trees s).fault ≡ None → s.fault ≡ None
 none_before t m first trees s h = by (s.fault) refl
   where
     by : (o : Option (IllCause × ℕ)) → s.fault ≡ o → o ≡ None
@@ -27,7 +27,7 @@ none_before t m first trees s h = by (s.fault) refl
         differ e = cc
 
 -- where nothing failed, what is done is done
-unless_gives : (s x : State) → (unless_failed s x).fault ≡ None → (s.fault ≡ None) × (unless_failed s x ≡ x)
+pub unless_gives : (s x : State) → (unless_failed s x).fault ≡ None → (s.fault ≡ None) × (unless_failed s x ≡ x)
 unless_gives s x h = by (s.fault) refl
   where
     by : (o : Option (IllCause × ℕ)) → s.fault ≡ o → (s.fault ≡ None) × (unless_failed s x ≡ x)
@@ -43,7 +43,7 @@ refused_gives : (r : Option ℕ) (s x : State) → (unless_refused r s x).fault 
 refused_gives None s x h = refl
 refused_gives (Some i) s x h = cc
 
-goes_on_gives : (s x : State) → (goes_on s x).fault ≡ None → (s.fault ≡ None) × (goes_on s x ≡ x)
+pub goes_on_gives : (s x : State) → (goes_on s x).fault ≡ None → (s.fault ≡ None) × (goes_on s x ≡ x)
 goes_on_gives s x h =
     let u : (s.fault ≡ None) × (goes_on s x ≡ unless_refused s.refused s x) = unless_gives s (unless_refused s.refused s x) h in
     let k : unless_refused s.refused s x ≡ x = refused_gives s.refused s x (ap (λ (z : State). z.fault) (sym u.1) ∙ h) in
@@ -54,7 +54,7 @@ if_fault : (b : Bool) (x y : State) → x.fault ≡ y.fault → (if b then x els
 if_fault true x y h = h
 if_fault false x y h = refl
 
-ended_as_fault : (m : NonTerm) (children : Trees) (before s : State) → (ended_as m children before s).fault ≡ s.fault
+pub ended_as_fault : (m : NonTerm) (children : Trees) (before s : State) → (ended_as m children before s).fault ≡ s.fault
 ended_as_fault n.AssMore children before s = by (is_empty children)
   where
     by : (b : Bool) → (if b then s else ended_as n.AssMore (token 0 none) before s).fault ≡ s.fault

@@ -41,7 +41,7 @@ use Rattle.cr_binding.specs.BindingGrows.{Extends, Grows, BindingGrows, FaultSta
 extends_itself : {A : Type 0} (xs ys : List A) → ys ≡ xs → Extends xs ys
 extends_itself xs ys e = ([], e ∙ sym (append-nil xs))
 
-extends_on : {A : Type 0} (xs ys zs : List A) → Extends xs ys → Extends ys zs → Extends xs zs
+pub extends_on : {A : Type 0} (xs ys zs : List A) → Extends xs ys → Extends ys zs → Extends xs zs
 extends_on xs ys zs x y = (x.0 ++ y.0, y.1 ∙ ap (λ l. l ++ y.0) x.1 ∙ append_assoc xs x.0 y.0)
 
 -- a state with the same lists
@@ -185,7 +185,7 @@ tag_grows : (t : Source) (i : ℕ) (c : CType) (s : State) → Grows s (declare_
 tag_grows t i c s =
     followed s (declare_plain t space.Tag s.keyword i c s) _ (plain_grows t space.Tag s.keyword i c s) (based_grows c _)
 
-again_grows : (d : Option Declaration) (t : Source) (i : ℕ) (s : State) → Grows s (tag_again d t i s)
+pub again_grows : (d : Option Declaration) (t : Source) (i : ℕ) (s : State) → Grows s (tag_again d t i s)
 again_grows None t i s = followed s (with_record i s) _ (record_grows i s) (tag_grows t i (new_type s) (with_record i s))
 again_grows (Some d) t i s = tag_grows t i d.type s
 
@@ -283,7 +283,7 @@ jump_grows (Some k) i s = used_grows _ s
 unless_grows : (s x : State) → Grows s x → Grows s (unless_failed s x)
 unless_grows s x g = if_grows (is_some s.fault) s s x (itself s) g
 
-jumps_grow : (t : Source) (is : List ℕ) (s : State) → Grows s (all_jumps t is s)
+pub jumps_grow : (t : Source) (is : List ℕ) (s : State) → Grows s (all_jumps t is s)
 jumps_grow t [] s = itself s
 jumps_grow t (i ∷ is) s =
     let k = meaning_here t space.Label i s in
@@ -294,7 +294,7 @@ ending_grows t s = followed s (all_jumps t s.jumps s) _ (jumps_grow t s.jumps s)
 
 -- ---- actions, ends of nodes, and the walk
 
-acted_grows : (t : Source) (m : NonTerm) (first : ℕ) (x : Action) (s : State) → Grows s (acted t m first x s)
+pub acted_grows : (t : Source) (m : NonTerm) (first : ℕ) (x : Action) (s : State) → Grows s (acted t m first x s)
 acted_grows t m first a.Spec s = specifier_grows t first s
 acted_grows t m first a.Declare s = named_grows t s.pending.name (declared_type s) s
 acted_grows t m first a.Param s = parameter_grows t s.pending.name (declared_type s) s

@@ -1,12 +1,12 @@
-mod Asking
-mod Done
+pub mod Asking
+pub mod Done
 mod FactRows
 mod Free
-mod Growing
+pub mod Growing
 mod Reading
-mod Renaming
+pub mod Renaming
 mod Rows
-mod Selecting
+pub mod Selecting
 mod Staying
 mod Stepping
 mod Tagging

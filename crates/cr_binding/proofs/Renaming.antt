@@ -107,7 +107,7 @@ module _ (class : Class) (old new : Name) (f : Flat) (own : DeclNo) (x : Entry) 
       at_g
       cg
 
-  not_linked : (i j : ℕ) (g h : Entry) → slice_get f.entries i ≡ Some g → slice_get f.entries j ≡ Some h → (x.decl.name ≡ old) ⊎ (x.decl.name ≡ new) → has_linkage x.decl.linkage ≡ true → class g ≡ true → g.decl.name ≡ old → h.decl.name ≡ new → has_linkage g.decl.linkage ≡ true → has_linkage h.decl.linkage ≡ true → ⊥
+  pub not_linked : (i j : ℕ) (g h : Entry) → slice_get f.entries i ≡ Some g → slice_get f.entries j ≡ Some h → (x.decl.name ≡ old) ⊎ (x.decl.name ≡ new) → has_linkage x.decl.linkage ≡ true → class g ≡ true → g.decl.name ≡ old → h.decl.name ≡ new → has_linkage g.decl.linkage ≡ true → has_linkage h.decl.linkage ≡ true → ⊥
   not_linked i j g h at_g at_h named lx cg ng nh lg lh =
       let a : First old = first_linked old i g at_g lg ng in
       let b : First new = first_linked new j h at_h lh nh in

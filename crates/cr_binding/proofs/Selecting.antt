@@ -21,7 +21,7 @@ there : (x y : Member) (xs : List Member) → Contains xs y → Contains (x ∷ 
 there x y xs h = (suc h.0, omega (arith, h.1), h.2)
 
 -- what a test finds among those that pass another one
-found_among : (p h : Member → Bool) (xs : List Member) (m : Member) → find p (filter h xs) ≡ Some m → Contains xs m × (h m ≡ true) × (p m ≡ true)
+pub found_among : (p h : Member → Bool) (xs : List Member) (m : Member) → find p (filter h xs) ≡ Some m → Contains xs m × (h m ≡ true) × (p m ≡ true)
 found_among p h [] m e = cc
 found_among p h (x ∷ xs) m e = by (found_among p h xs m) (h x) (p x) refl refl e
   where

@@ -126,10 +126,10 @@ module _ (t u : Source) where
   anonymous_alike (Some r) None c s h = refl
   anonymous_alike (Some r) (Some q) c s h = write_alike r c (brought_in r q s) s h
 
-  splice_alike : (s : State) → BringsAlike t u s s.filled (record_of (specified_type s.pending)) → splice u s ≡ splice t s
+  splice_alike : (s : State) → (s.pending.is_untagged ≡ true → BringsAlike t u s s.filled (record_of (specified_type s.pending))) → splice u s ≡ splice t s
   splice_alike s h =
       let c = specified_type s.pending in
-      ap (λ x. if s.pending.is_untagged then x else s) (anonymous_alike s.filled (record_of c) c s h)
+      if_alike s.pending.is_untagged (add_anonymous u s.filled (record_of c) c s) (add_anonymous t s.filled (record_of c) c s) s (λ e. anonymous_alike s.filled (record_of c) c s (h e))
 
   -- ---- expressions and initialisers
 

@@ -118,7 +118,8 @@ IsAlike t u m first a.TagDef s = NamesATagAlike t u s s.last
 IsAlike t u m first a.TagAlone s = NamesATagAlike t u s s.last
 IsAlike t u m first a.TagUse s = UsesATagAlike t u s s.last
 IsAlike t u m first a.Member s = AddsPending t u s s.filled s.pending.name
-IsAlike t u m first a.Splice s = BringsAlike t u s s.filled (record_of (specified_type s.pending))
+IsAlike t u m first a.Splice s =
+    s.pending.is_untagged ≡ true → BringsAlike t u s s.filled (record_of (specified_type s.pending))
 IsAlike t u m first a.Label s = DeclaresAlike t u s space.Label kind.Label linkage.None s.last
 IsAlike t u m first a.EndBody s = JumpAlike t u s s.jumps
 IsAlike t u m first a.Callee s = MentionsAlike t u s s.last

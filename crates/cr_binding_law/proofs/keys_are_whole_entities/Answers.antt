@@ -1,0 +1,8 @@
+use Rattle.cr_binding_law.proofs.Keyed.{keys_are_entities, keys_are_free}
+use Rattle.cr_binding_law.proofs.keys_are_whole_entities.Goals as goal
+
+pub returns-clause-entities : goal.returns-clause-entities
+returns-clause-entities c = keys_are_entities
+
+pub returns-clause-free : goal.returns-clause-free
+returns-clause-free c = keys_are_free

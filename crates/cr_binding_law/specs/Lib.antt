@@ -1,0 +1,5 @@
+pub mod AskedIdentifiers
+pub mod ConsistentUnits
+pub mod Renaming
+pub mod RenamingKeys
+pub mod UnitStays
