@@ -307,9 +307,6 @@ module _ (t : Source) (end : State) where
     second_own p answer there at h f mark =
         by (either_of (is_second x) (is_pdtor x || is_adtor x) (implied (second_asks (rule x)) (is_second x || (is_pdtor x || is_adtor x)) (rules_second x) f))
       where
-        m : IsMarked t end i
-        m = record { mark = mark.0; own = mark.1; sort = is_id (i + 1) h; next = looks (i + 1) h; next_seen = seen_so (i + 1) h }
-
         at_second : is_second x ≡ true → Own p answer
         at_second e =
             let k : IsMarked t end i = record { mark = mark.0; own = mark.1; sort = is_id (i + 1) h; next = looks (i + 1) h; next_seen = seen_so (i + 1) h } in
@@ -406,9 +403,6 @@ module _ (t : Source) (end : State) where
   action_since : (o : Bool) (m : NonTerm) (first : ℕ) (x : Action) (s0 s : State) → (not o || is_quiet (effect x)) ≡ true → (acted t m first x s).fault ≡ None → Grows (acted t m first x s) end → Since o s0 s → Since (o && not (is_param x)) s0 (acted t m first x s)
   action_since o m first x s0 s h sound g since = by (is_param x) refl
     where
-      does : Does (effect x) s (acted t m first x s)
-      does = acted_does t m first x s sound
-
       same_mode : (o : Bool) → (o && not false) ≡ o
       same_mode true = refl
       same_mode false = refl

@@ -171,9 +171,6 @@ module _ (t : Source) where
     added_accepted fine i j e g w at_e at_g =
         by (front_or_end (map (entry t) s.declarations) (entry t d) i e at_e) (front_or_end (map (entry t) s.declarations) (entry t d) j g at_g)
       where
-        es : List Entry
-        es = map (entry t) s.declarations
-
         by : (slice_get (map (entry t) s.declarations) i ≡ Some e) ⊎ ((i ≡ length (map (entry t) s.declarations)) × (entry t d ≡ e)) → (slice_get (map (entry t) s.declarations) j ≡ Some g) ⊎ ((j ≡ length (map (entry t) s.declarations)) × (entry t d ≡ g)) → clashes e g ≡ false
         by (inl a) (inl b) = c.accepted i j e g w a b
         by (inr a) (inl b) =

@@ -13,7 +13,7 @@ use Rattle.cr_capture.proofs.Renamed.{found_at}
 use Rattle.cr_scope.specs.Redeclaration.{same_path, repeats}
 use Rattle.cr_types.specs.Types.{CType}
 use Rattle.cr_binding.specs.Source.{Source, name_at, text_at, is_identifier, is_built_in}
-use Rattle.cr_binding.specs.State.{Declaration, Record, LookedUp, IsBuiltIn, State}
+use Rattle.cr_binding.specs.State.{Declaration, LookedUp, IsBuiltIn, State}
 use Rattle.cr_binding.specs.Entities.{entry, is_tag, is_linked, is_typedef, is_tag_here, token_or}
 use Rattle.cr_binding.specs.Declaring.{failed, used, declaration, declaration_at, meaning_here, looked_up, declare_plain}
 use Rattle.cr_binding.specs.Specifying.{based, named_type, typedef_name, specified_by, specifier_at, type_specifier}
@@ -92,9 +92,6 @@ module _ (law : Laws) (class : ℕ → Bool) (old new : Name) (t u : Source) (re
   means_identifier : (called : Bool) (i : ℕ) (s : State) → Grows s end → (identifier called t i s).fault ≡ None → Grows (identifier called t i s) end → MeansAlike t u s space.Ordinary i
   means_identifier called i s more h g = by (s.in_body && is_function_name (text_at t i)) refl h g
     where
-      k : Option ℕ
-      k = meaning_here t space.Ordinary i s
-
       second : (a b : Bool) → (a && b) ≡ true → b ≡ true
       second true b e = e
       second false b e = cc
@@ -128,9 +125,6 @@ module _ (law : Laws) (class : ℕ → Bool) (old new : Name) (t u : Source) (re
   tag_added None i s h g =
       (new_type s, by (is_record_kind s.keyword) h g)
     where
-      rs : List Record
-      rs = s.records ++ (record { token = i; is_union = is_union_kind s.keyword }) ∷ []
-
       based_grows : (c : CType) (x : State) → Grows (based c x) end → Grows x end
       based_grows c x g =
           record { declarations = g.declarations; uses = g.uses; records = g.records; written = g.written; members = g.members; completed = g.completed; ended = g.ended; hidden = g.hidden }
@@ -149,9 +143,6 @@ module _ (law : Laws) (class : ℕ → Bool) (old new : Name) (t u : Source) (re
   names_alike : (i : ℕ) (s : State) → Extends s.declarations end.declarations → TagAdded i s → NamesATagAlike t u s i
   names_alike i s more a = record { here = here; declares = tag_declares i s a }
     where
-      d : Declaration
-      d = declaration space.Tag s.keyword linkage.None i a.0 s
-
       whole : (k : ℕ) (e : Declaration) → slice_get s.declarations k ≡ Some e → is_tag_here t s.present i e ≡ true → class i ≡ class e.token
       whole k e at is =
           let p = three (is_tag e) (same_path e.path s.present) (same_name (name_at t e.token) (name_at t i)) is in

@@ -7,8 +7,8 @@ ghost use Rattle.cr_binding_law.specs.RenamingKeys.{KeysAreEntities, KeysAreFree
 ghost use Rattle.cr_binding_law.specs.UnitStays.{RenamingKeepsUnits};
 
 use cr_binding::{
-    actions_are_done, binding_grows, binding_stays, free_units_have_free_mentions,
-    renaming_keeps_members, renaming_keeps_what_is_asked, renaming_keeps_what_is_read,
+    actions_are_done, binding_stays, free_units_have_free_mentions, renaming_keeps_members,
+    renaming_keeps_what_is_asked, renaming_keeps_what_is_read,
 };
 use cr_scope::lookup_means;
 
@@ -20,7 +20,6 @@ pub fn renaming_keeps_units()
     ensures { RenamingKeepsUnits }
 {
     lookup_means();
-    binding_grows();
     actions_are_done();
     binding_stays();
     renaming_keeps_what_is_read();
