@@ -1,6 +1,6 @@
 use crate::crename_serial;
 use cr_base::PathText;
-use cr_world::{DirTree, MemSink, MemTree};
+use cr_world::{DirTree, MemSink, MemTree, SystemDisk};
 use std::alloc::{AllocError, Global};
 use std::test::Fail;
 use std::{env, fs, process};
@@ -474,7 +474,7 @@ fn a_real_file_is_written_in_place(rt: HostRuntime) -> Result<(), Fail> {
     fs::write(&rt, path.as_str(), TWO_FUNCTIONS)?;
     let line = format!(in alloc; "{path} --offset 47 --new-name bar -i")?;
     let words = words_of(alloc, line.as_str())?;
-    let mut tree = DirTree::new(&rt, alloc);
+    let mut tree = DirTree::new(alloc, SystemDisk::new(&rt));
     let mut out = MemSink::new(alloc);
     let mut err = MemSink::new(alloc);
     let status = crename_serial(alloc, &words, &mut tree, &mut out, &mut err);

@@ -1,46 +1,57 @@
-//! The system's files.
-ghost use Rattle.std.specs.Prelude.{◌≡◌, ◌++◌, None, Some, List, ℕ, IfOk, codes, string_bytes};
-ghost use Rattle.cr_world.specs.Outside.{HandsOver, SaysOfFile};
+//! A tree of files on a disk.
+ghost use Rattle.std.specs.Prelude.{◌≡◌, ◌++◌, ◌<◌, [], length, Some, List, ℕ, IfOk, codes};
+ghost use Rattle.cr_world.specs.Outside.{Files, HandsOver, SaysOfFile, ReplaceTells};
+ghost use Rattle.cr_world.specs.Disks.{Leaves, Appends, Drafts};
 
+use crate::disk::{Disk, OpenFault};
 use crate::{DoneEnd, ReadEnd, Tree};
 use cr_base::{OutOfMemory, PathText};
 use std::alloc::Global;
-use std::fs::{self, File};
-use std::io::{ErrorKind, Read};
-use std::rt::Files;
+use std::io::Read;
 
-/// The files of the system. A relative path is taken from the folder that the program runs in. It tells
-/// no content, and keeps one count of failed reads and one of failed replaces for all paths. A path that
-/// is no UTF-8 can't be handed to the system: its reads and replaces fail.
+/// The files of a disk. It tells what the disk tells, and keeps one count of failed reads and one of failed replaces for
+/// all paths.
+///
+/// A file is replaced through a neighbour, named like it with `.crename~` behind, which is made anew, gets the file's
+/// mode, is written and synced, and then renamed. Where anything stands at the neighbour's path, or no regular file at
+/// the file's, the replace fails and touches nothing; where it fails later, the neighbour is taken away again. Of a
+/// symbolic link the file that it leads to is replaced.
 #[derive(Drop)]
-pub struct DirTree<'a, R: Files> {
-    rt: &'a R,
+pub struct DirTree<D: Disk + Drop> {
+    disk: D,
     alloc: Global,
     reads: u64,
     replaces: u64,
 }
 
-impl<'a, R: Files> DirTree<'a, R> {
-    /// The files of the system, with no failed call so far.
-    pub fn new(rt: &'a R, alloc: Global) -> DirTree<'a, R> {
+impl<D: Disk + Drop> DirTree<D> {
+    /// The files of a disk, with no failed call so far.
+    pub fn new(alloc: Global, disk: D) -> DirTree<D> {
         DirTree {
-            rt,
+            disk,
             alloc,
             reads: 0,
             replaces: 0,
         }
     }
+
+    /// The disk on which the files stand.
+    pub fn disk(&self) -> &D
+        ensures { result.now ≡ self.now.disk }
+    {
+        &self.disk
+    }
 }
 
-impl<'a, R: Files> Tree for DirTree<'a, R> {
-    ghost files = { λ t. None };
+impl<D: Disk + Drop> Tree for DirTree<D> {
+    ghost files = { λ t. D.files t.disk };
 
     ghost reads = { λ t path. t.reads };
 
     ghost replaces = { λ t path. t.replaces };
 
     fn read(&mut self, _alloc: Global, path: &PathText, max: usize, into: &mut Vec<u8>) -> ReadEnd {
-        let end = read_file(self.rt, path, max, into);
+        let end = read_file(&self.disk, path.bytes(), max, into);
         if matches!(end, ReadEnd::Failed) {
             self.reads = self.reads.saturating_add(1);
         }
@@ -48,27 +59,23 @@ impl<'a, R: Files> Tree for DirTree<'a, R> {
     }
 
     fn replace(&mut self, path: &PathText, bytes: &[u8]) -> DoneEnd {
-        if replace_file(self.rt, self.alloc, path, bytes) {
-            return DoneEnd::Done;
+        let end = replace_file(&mut self.disk, self.alloc, path.bytes(), bytes);
+        if matches!(end, DoneEnd::Failed) {
+            self.replaces = self.replaces.saturating_add(1);
         }
-        self.replaces = self.replaces.saturating_add(1);
-        DoneEnd::Failed
+        end
     }
 }
 
-fn read_file<R: Files>(rt: &R, path: &PathText, max: usize, into: &mut Vec<u8>) -> ReadEnd
-    ensures { HandsOver result max into.new.items }
+fn read_file<D: Disk>(disk: &D, path: &[u8], max: usize, into: &mut Vec<u8>) -> ReadEnd
+    ensures handed { HandsOver result max into.new.items }
+    ensures file { (told : Files) → D.files disk.now ≡ Some told → SaysOfFile result max into.new.items (told path.now) }
 {
     into.clear();
-    let Ok(name) = str::from_utf8(path.bytes()) else {
-        return ReadEnd::Failed;
-    };
-    match File::open(rt, name) {
+    match disk.open(path) {
         Ok(mut file) => fill(&mut file, max, into),
-        Err(error) => match error.kind() {
-            ErrorKind::NotFound => ReadEnd::Absent,
-            _ => ReadEnd::Failed,
-        },
+        Err(OpenFault::Absent) => ReadEnd::Absent,
+        Err(OpenFault::Failed) => ReadEnd::Failed,
     }
 }
 
@@ -100,25 +107,61 @@ fn fill<F: Read>(file: &mut F, max: usize, into: &mut Vec<u8>) -> ReadEnd
     ReadEnd::Long
 }
 
-// Writes a file beside the one that is meant, and renames it.
-fn replace_file<R: Files>(rt: &R, alloc: Global, path: &PathText, bytes: &[u8]) -> bool {
-    let Ok(name) = str::from_utf8(path.bytes()) else {
-        return false;
+// Replaces the file that a path means.
+fn replace_file<D: Disk>(disk: &mut D, alloc: Global, path: &[u8], bytes: &[u8]) -> DoneEnd
+    ensures { ReplaceTells result path.now bytes.now (D.files disk.old) (D.files disk.new) }
+{
+    let Some(target) = disk.target(alloc, path) else {
+        return DoneEnd::Failed;
     };
-    match neighbour(alloc, name) {
-        Ok(beside) => {
-            fs::write(rt, beside.as_str(), bytes).is_ok()
-                && fs::rename(rt, beside.as_str(), name).is_ok()
-        }
-        Err(_) => false,
+    match neighbour(alloc, &target) {
+        Ok(beside) => replace_through(disk, &target, &beside, bytes),
+        Err(_) => DoneEnd::Failed,
     }
 }
 
-// The name of the file that is written first.
-fn neighbour(alloc: Global, name: &str) -> Result<String, OutOfMemory>
-    ensures { IfOk result (λ beside. string_bytes beside ≡ name.now ++ codes ".crename~") }
+// The path of the file that is written first.
+fn neighbour(alloc: Global, path: &[u8]) -> Result<Vec<u8>, OutOfMemory>
+    ensures { IfOk result (λ beside. beside.items ≡ path.now ++ codes ".crename~") }
 {
-    let mut beside = String::from_str(alloc, name)?;
-    beside.push_str(".crename~")?;
+    let mut beside = path.to_vec(alloc)?;
+    beside.extend_from_slice(b".crename~")?;
     Ok(beside)
+}
+
+// Writes a file beside the one that is meant, and renames it.
+fn replace_through<D: Disk>(disk: &mut D, path: &[u8], beside: &[u8], bytes: &[u8]) -> DoneEnd
+    requires apart { length path.now < length beside.now }
+    ensures { ReplaceTells result path.now bytes.now (D.files disk.old) (D.files disk.new) }
+{
+    let Some(draft) = disk.make(beside) else {
+        return DoneEnd::Failed;
+    };
+    let mut end = write_draft(disk, draft, path, bytes);
+    if matches!(end, DoneEnd::Done) {
+        end = disk.rename(beside, path);
+    }
+    if matches!(end, DoneEnd::Failed) {
+        disk.remove(beside);
+    }
+    end
+}
+
+// Writes a file that was made, with the mode of another one.
+fn write_draft<D: Disk>(disk: &mut D, mut draft: D::Draft, of: &[u8], bytes: &[u8]) -> DoneEnd
+    ensures { Leaves (λ before now. before (D.place draft) ≡ Some [] → Drafts result (D.place draft) bytes.now before now) (D.files disk.old) (D.files disk.new) }
+{
+    match disk.take_mode(&mut draft, of) {
+        DoneEnd::Done => write_synced(disk, &mut draft, bytes),
+        DoneEnd::Failed => DoneEnd::Failed,
+    }
+}
+
+fn write_synced<D: Disk>(disk: &mut D, draft: &mut D::Draft, bytes: &[u8]) -> DoneEnd
+    ensures { Leaves (Appends result (D.place draft.old) bytes.now) (D.files disk.old) (D.files disk.new) }
+{
+    match disk.write(draft, bytes) {
+        DoneEnd::Done => disk.sync(draft),
+        DoneEnd::Failed => DoneEnd::Failed,
+    }
 }

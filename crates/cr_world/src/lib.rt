@@ -5,15 +5,19 @@
 
 mod calls;
 mod dir_tree;
+mod disk;
 mod mem_sink;
 mod mem_tree;
 mod outside;
 mod std_sink;
+mod system_disk;
 #[cfg(test)]
 mod tests;
 
 pub use dir_tree::DirTree;
+pub use disk::{Disk, OpenFault};
 pub use mem_sink::MemSink;
 pub use mem_tree::MemTree;
 pub use outside::{DoneEnd, ReadEnd, Sink, Tree};
 pub use std_sink::StdSink;
+pub use system_disk::SystemDisk;
