@@ -1,10 +1,10 @@
 -- What each step of a verdict finds.
 use Rattle.std.proofs.Common.{◌≡◌, ℕ, ◌+◌, ◌<◌, ◌⊎◌, Bool, true, false, ◌||◌, List, [], ◌∷◌, length, Option, Some, None, Result, Err, refl, sym, ap, ◌∙◌, subst, inl, inr, arith}
-use Rattle.std.specs.Prelude.{◌↔◌, not, if◌then◌else◌, ◌&&◌}
+use Rattle.std.specs.Prelude.{Ok, OnOk, ◌↔◌, not, if◌then◌else◌, ◌&&◌}
 use Rattle.std.specs.List.{Contains, list_any}
 use Rattle.std.specs.declared.cmp.Ordering.{Ordering}
 use Rattle.std.specs.Cmp.{IsTotalOrder, on_total}
-use Rattle.std.specs.FinSet.{contains, from_list}
+use Rattle.std.specs.FinSet.{from_list}
 use Rattle.std.proofs.lemmas.Cmp.{then_total}
 use Rattle.std.proofs.lemmas.Bool.{cases_eq}
 use Rattle.cr_base.specs.declared.token.Place.{Place}
@@ -12,13 +12,13 @@ use Rattle.cr_base.specs.declared.key.Key.{Key}
 use Rattle.cr_base.specs.contracts.cause.RoleOrd.TheImpl.Laws.{total-law}
 use Rattle.cr_facts.specs.FactOrder.{Facts, FactsAreOrdered}
 use Rattle.cr_facts.specs.declared.fact.Fact.{Fact}
-use Rattle.cr_facts.specs.declared.fact.Fact.TheVariants.{Denotes, FileScope, HasRole, MadeDenotes, NewKey, NewMacro, BodyParam, OpaqueAt, Conflict}
+use Rattle.cr_facts.specs.declared.fact.Fact.TheVariants.{Denotes, FileScope, HasRole, MadeDenotes, NewMacro, BodyParam, OpaqueAt, Conflict}
 use Rattle.cr_snapshot.specs.declared.known.KnownFile.{KnownFile}
 use Rattle.cr_class.specs.RenameClass.{Has, AreKnown}
 use Rattle.cr_class.specs.ShownOrder.{path_of}
 use Rattle.cr_class.specs.Judging.{scope_of}
 use Rattle.cr_class.specs.Declarations.{least, lesser}
-use Rattle.cr_class.specs.Verdict.{IsGiven, IsLeast, Passes, Refuses, IsFirstRefusal, step_of, use_cmp, is_in_class, is_renamed, macro_place, mixed_use, made_place, opaque_place, capture_place, renamed_key, is_mixed_role, is_made_role, is_unwritable_path, is_unspellable_at, bytes_of, IsReservedScope}
+use Rattle.cr_class.specs.Verdict.{IsGiven, IsLeast, Passes, Refuses, IsFirstRefusal, step_of, use_cmp, is_in_class, is_renamed, macro_place, mixed_use, made_place, opaque_place, capture_place, IsCaptured, IsClashPlace, is_mixed_role, is_made_role, is_unwritable_path, is_unspellable_at, bytes_of, IsReservedScope}
 use Rattle.cr_class.specs.declared.class.Class.{Class}
 use Rattle.cr_class.specs.declared.uses.Use.{Use}
 use Rattle.cr_class.specs.declared.refusal.Refusal.{Refusal}
@@ -85,11 +85,10 @@ module _ (files : List KnownFile) (facts : Facts) (known : AreKnown files facts)
     known_made p (HasRole q r, has, e) = subst (λ (s : Place). s.path.0 < length files) (if_same (renamed q && is_made_role r) q p e) (known (HasRole q r) has)
     known_made p (f, has, e) = let bad : ⊥ = cc in absurd bad
 
-    pub known_capture : (new : List ℕ) (p : Place) → IsGiven (capture_place facts in_class renamed new) facts p → p.path.0 < length files
-    known_capture new p (Conflict k q, has, e) = subst (λ (r : Place). r.path.0 < length files) (if_same (in_class k) q p e) (known (Conflict k q) has)
-    known_capture new p (BodyParam q, has, e) = subst (λ (r : Place). r.path.0 < length files) (if_same (renamed q) q p e) (known (BodyParam q) has)
-    known_capture new p (Denotes q k, has, e) = subst (λ (r : Place). r.path.0 < length files) (if_same (in_class k && contains facts (NewKey (renamed_key new k))) q p e) (known (Denotes q k) has)
-    known_capture new p (f, has, e) = let bad : ⊥ = cc in absurd bad
+    pub known_capture : (p : Place) → IsGiven (capture_place in_class renamed) facts p → p.path.0 < length files
+    known_capture p (Conflict k q, has, e) = subst (λ (r : Place). r.path.0 < length files) (if_same (in_class k) q p e) (known (Conflict k q) has)
+    known_capture p (BodyParam q, has, e) = subst (λ (r : Place). r.path.0 < length files) (if_same (renamed q) q p e) (known (BodyParam q) has)
+    known_capture p (f, has, e) = let bad : ⊥ = cc in absurd bad
 
 -- where nothing is found, no refusal of the step holds
 module _ (facts : Facts) (class : Class) (files : List KnownFile) (root : Option (List ℕ)) (old new : List ℕ) where
@@ -117,13 +116,18 @@ module _ (facts : Facts) (class : Class) (files : List KnownFile) (root : Option
   passes_opaque none (refusal.Opaque p) e h = none p h.0
   passes_opaque none r e h = let bad : ⊥ = omega (arith, e) in bad
 
-  pub passes_capture : ((p : Place) → IsGiven (capture_place facts (is_in_class class) (is_renamed class) new) facts p → ⊥) → Passes facts class files root old new 7
-  passes_capture none (refusal.Capture p) e h = none p h.0
-  passes_capture none r e h = let bad : ⊥ = omega (arith, e) in bad
+  pub passes_capture : ((p : Place) → IsCaptured facts class p → ⊥) → ((p : Place) → IsClashPlace facts class new p → ⊥) → Passes facts class files root old new 7
+  passes_capture none clash (refusal.Capture p) e (inl h) = none p h.0
+  passes_capture none clash (refusal.Capture p) e (inr h) = clash p h.1.0
+  passes_capture none clash r e h = let bad : ⊥ = omega (arith, e) in bad
 
   pub passes_reserved : (IsReservedScope facts class new → ⊥) → Passes facts class files root old new 0
   passes_reserved none refusal.Reserved e h = none h
   passes_reserved none r e h = let bad : ⊥ = omega (arith, e) in bad
+
+pub on_ok : {P Q : Type 0} (r : Result (Unit {0}) VerdictFault) → OnOk r P → (P → Q) → OnOk r Q
+on_ok (Ok a) p f = f p
+on_ok (Err e) p f = tt
 
 pub same_refusal : (a r : Refusal) → ◌≡◌ {A = Result (Unit {0}) VerdictFault} (Err (fault.Refused a)) (Err (fault.Refused r)) → a ≡ r
 same_refusal a r e = cc

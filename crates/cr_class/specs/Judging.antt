@@ -7,10 +7,12 @@ use Rattle.std.specs.BTreeSet as tree
 use Rattle.cr_base.specs.declared.token.Place.{Place}
 use Rattle.cr_base.specs.declared.key.Key.{Key}
 use Rattle.cr_class.specs.RenameClass.{AreKnown, key_cmp, place_cmp}
-use Rattle.cr_class.specs.Verdict.{is_in_class, is_renamed, KnowsClass, Passes, Refuses, IsFirstRefusal, step_of}
+use Rattle.cr_class.specs.ShownOrder.{shown_cmp}
+use Rattle.cr_class.specs.Verdict.{is_in_class, is_renamed, KnowsClass, IsLeast, IsClashPlace, Passes, Refuses, IsFirstRefusal, step_of}
 use Rattle.cr_class.specs.declared.question.Question.{Question}
 use Rattle.cr_class.specs.declared.question.Members.{Members}
 use Rattle.cr_class.specs.declared.refusal.Refusal.{Refusal}
+use Rattle.cr_class.specs.declared.refusal.Refusal.TheVariants as refusal
 
 -- the question is of places that the snapshot knows
 abbrev pub IsAsked : Question → Type 0
@@ -28,6 +30,14 @@ PassesStep q step = Passes q.facts.now q.class.now q.snapshot.now (option_map (�
 -- a refusal of a step holds
 abbrev pub RefusesAt : Question → ℕ → Refusal → Type 0
 RefusesAt q step r = (step_of r ≡ step) × Refuses q.facts.now q.class.now q.snapshot.now (option_map (λ r. r.now) q.root) q.old.now q.new.now r
+
+-- no place of the class is one of a clash
+abbrev pub HasNoClash : Question → Type 0
+HasNoClash q = (p : Place) → IsClashPlace q.facts.now q.class.now q.new.now p → ⊥
+
+-- a capture at the least place of a clash
+abbrev pub IsClash : Question → Refusal → Type 0
+IsClash q r = (p : Place) × (r ≡ refusal.Capture p) × IsLeast (shown_cmp q.snapshot.now) (IsClashPlace q.facts.now q.class.now q.new.now) p
 
 -- a fact puts a known key at file scope
 abbrev pub scope_of : (Key → Bool) → Fact → Bool

@@ -1,6 +1,6 @@
 -- Whether the entities of a class may be renamed, over the facts of all units. Each refusal is stated by itself; the
 -- answer is the first of them, in the order of their steps.
-use Rattle.std.specs.Prelude.{ℕ, ◌≡◌, ◌≢◌, ◌<◌, ◌+◌, Bool, true, false, not, ◌&&◌, ◌||◌, ◌==◌, List, [], ◌∷◌, length, drop, Option, Some, None, if◌then◌else◌, bytes_eq, nat_eq, nat_le}
+use Rattle.std.specs.Prelude.{ℕ, ◌≡◌, ◌≢◌, ◌⊎◌, ◌<◌, ◌+◌, Bool, true, false, not, ◌&&◌, ◌||◌, ◌==◌, List, [], ◌∷◌, length, drop, Option, Some, None, if◌then◌else◌, bytes_eq, nat_eq, nat_le}
 use Rattle.std.specs.List.{Contains, list_any, starts_with}
 use Rattle.std.specs.FinSet.{contains}
 use Rattle.std.specs.declared.cmp.Ordering.{Ordering}
@@ -94,13 +94,15 @@ abbrev pub opaque_place : Fact → Option Place
 opaque_place (OpaqueAt p) = Some p
 opaque_place _ = None
 
--- A mention would change what it denotes, a macro's parameter is renamed in its body alone, or an entity would become
--- one with another (C11 6.2.1, 6.2.2, 6.2.7).
-abbrev pub capture_place : Facts → (Key → Bool) → (Place → Bool) → List ℕ → Fact → Option Place
-capture_place facts in_class renamed new (Conflict k p) = if in_class k then Some p else None
-capture_place facts in_class renamed new (BodyParam p) = if renamed p then Some p else None
-capture_place facts in_class renamed new (Denotes p k) = if in_class k && contains facts (NewKey (renamed_key new k)) then Some p else None
-capture_place facts in_class renamed new _ = None
+-- A mention would change what it denotes, or a name in a macro's body would become a parameter of it (C11 6.2.1, 6.10.3).
+abbrev pub capture_place : (Key → Bool) → (Place → Bool) → Fact → Option Place
+capture_place in_class renamed (Conflict k p) = if in_class k then Some p else None
+capture_place in_class renamed (BodyParam p) = if renamed p then Some p else None
+capture_place in_class renamed _ = None
+
+-- An entity of the class would become one with another that has the new name (C11 6.2.2, 6.2.7).
+abbrev pub has_clash : Facts → Class → List ℕ → Bool
+has_clash facts class new = list_any (λ k. contains facts (NewKey (renamed_key new k))) class.keys
 
 -- what a fact of the set gives
 abbrev pub IsGiven : {X : Type 0} → (Fact → Option X) → Facts → X → Type 0
@@ -146,6 +148,14 @@ is_unspellable_at old new bytes at = if stands_at old bytes at then is_before_qu
 abbrev pub IsLeast : {X : Type 0} → (X → X → Ordering) → (X → Type 0) → X → Type 0
 IsLeast {X} R P x = P x × ((y : X) → P y → R y x ≢ Less)
 
+-- a fact says that a name would denote something else at a place
+abbrev pub IsCaptured : Facts → Class → Place → Type 0
+IsCaptured facts class = IsGiven (capture_place (is_in_class class) (is_renamed class)) facts
+
+-- Where an entity would become one with another, each place of the class is one of a clash.
+abbrev pub IsClashPlace : Facts → Class → List ℕ → Place → Type 0
+IsClashPlace facts class new p = Contains class.places p × (has_clash facts class new ≡ true)
+
 -- the order in which uses are shown: by place, then by role
 abbrev pub use_cmp : List KnownFile → Use → Use → Ordering
 use_cmp files u v = ordering_then (shown_cmp files u.place v.place) (role_cmp u.role v.role)
@@ -161,7 +171,9 @@ Refuses facts class files root old new (refusal.Unwritable p) =
 Refuses facts class files root old new (refusal.Spelling p) =
     IsLeast (shown_cmp files) (λ q. Contains class.places q × (is_unspellable_at old new (bytes_of files q) q.offset ≡ true)) p
 Refuses facts class files root old new (refusal.Opaque p) = IsLeast (shown_cmp files) (IsGiven opaque_place facts) p
-Refuses facts class files root old new (refusal.Capture p) = IsLeast (shown_cmp files) (IsGiven (capture_place facts (is_in_class class) (is_renamed class) new) facts) p
+Refuses facts class files root old new (refusal.Capture p) =
+    IsLeast (shown_cmp files) (IsCaptured facts class) p
+    ⊎ (((q : Place) → IsCaptured facts class q → ⊥) × IsLeast (shown_cmp files) (IsClashPlace facts class new) p)
 
 -- the order of the refusals
 abbrev pub step_of : Refusal → ℕ

@@ -1,6 +1,6 @@
 //! The places at which facts stand against a renaming.
-ghost use Rattle.std.specs.Prelude.{◌≡◌, ◌&&◌, ◌↔◌, Option, Some, IfOk};
-ghost use Rattle.std.specs.List.{Contains};
+ghost use Rattle.std.specs.Prelude.{◌≡◌, ◌↔◌, Option, Some, IfOk};
+ghost use Rattle.std.specs.List.{Contains, list_any};
 ghost use Rattle.std.specs.FinSet.{contains};
 ghost use Rattle.std.specs.BTreeSet as tree;
 ghost use Rattle.cr_base.specs.declared.token.Place.{Place as AnyPlace};
@@ -148,44 +148,47 @@ fn renamed_key(alloc: Global, new: &[u8], key: &Key) -> Result<Key, OutOfMemory>
     })
 }
 
-// Whether the entity of the key is of the class and would become one that has the new name.
+// Whether the entity of the key would become one that has the new name.
 fn becomes_another(
     alloc: Global,
     facts: &FactSet,
-    members: &Members,
     new: &[u8],
     key: &Key,
 ) -> Result<bool, OutOfMemory>
-    ensures { IfOk result (λ is. is ≡ (tree.contains key_cmp members.now.keys key.now && contains facts.now (fact.NewKey (spec.renamed_key new.now key.now)))) }
+    ensures { IfOk result (λ is. is ≡ contains facts.now (fact.NewKey (spec.renamed_key new.now key.now))) }
 {
-    if !members.keys.contains(key) {
-        return Ok(false);
-    }
     let fact = Fact::NewKey(renamed_key(alloc, new, key)?);
     Ok(facts.contains(&fact))
 }
 
-// The place at which a fact says that a name would denote something else.
-fn capture_place(
+/// Whether one of the entities would become one with another.
+pub fn has_clash(
     alloc: Global,
     facts: &FactSet,
-    members: &Members,
+    keys: &[Key],
     new: &[u8],
-    fact: &Fact,
-) -> Result<Option<Place>, OutOfMemory>
-    ensures { IfOk result (λ place. place ≡ spec.capture_place facts.now (tree.contains key_cmp members.now.keys) (tree.contains place_cmp members.now.places) new.now fact.now) }
+) -> Result<bool, OutOfMemory>
+    ensures { IfOk result (λ is. is ≡ list_any (λ k. contains facts.now (fact.NewKey (spec.renamed_key new.now k))) keys.now) }
+{
+    match keys {
+        [] => Ok(false),
+        [key, rest @ ..] => {
+            if becomes_another(alloc, facts, new, key)? {
+                return Ok(true);
+            }
+            has_clash(alloc, facts, rest, new)
+        }
+    }
+}
+
+// The place at which a fact says that a name would denote something else.
+fn capture_place(members: &Members, fact: &Fact) -> Option<Place>
+    ensures { result ≡ spec.capture_place (tree.contains key_cmp members.now.keys) (tree.contains place_cmp members.now.places) fact.now }
 {
     match fact {
-        Fact::Conflict(key, place) if members.keys.contains(key) => Ok(Some(*place)),
-        Fact::BodyParam(place) if members.places.contains(place) => Ok(Some(*place)),
-        Fact::Denotes(place, key) => {
-            if becomes_another(alloc, facts, members, new, key)? {
-                Ok(Some(*place))
-            } else {
-                Ok(None)
-            }
-        }
-        _ => Ok(None),
+        Fact::Conflict(key, place) if members.keys.contains(key) => Some(*place),
+        Fact::BodyParam(place) if members.places.contains(place) => Some(*place),
+        _ => None,
     }
 }
 
@@ -194,15 +197,14 @@ pub fn capture_places(
     alloc: Global,
     facts: &FactSet,
     members: &Members,
-    new: &[u8],
 ) -> Result<Vec<Place>, OutOfMemory>
     ensures { IfOk result (λ places. (p : AnyPlace) → Contains places.items p
-        ↔ IsGiven (spec.capture_place facts.now (tree.contains key_cmp members.now.keys) (tree.contains place_cmp members.now.places) new.now) facts.now p) }
+        ↔ IsGiven (spec.capture_place (tree.contains key_cmp members.now.keys) (tree.contains place_cmp members.now.places)) facts.now p) }
 {
     facts_are_ordered();
     let mut places = Vec::new(alloc);
     for fact in facts.iter() {
-        if let Some(place) = capture_place(alloc, facts, members, new, fact)? {
+        if let Some(place) = capture_place(members, fact) {
             places.push(place)?;
         }
     }

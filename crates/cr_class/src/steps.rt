@@ -9,10 +9,12 @@ ghost use Rattle.cr_class.specs.ShownOrder.{shown_cmp};
 ghost use Rattle.cr_class.specs.Declarations.{lesser, least};
 ghost use Rattle.cr_class.specs.Verdict as spec;
 ghost use Rattle.cr_class.specs.Verdict.{use_cmp};
-ghost use Rattle.cr_class.specs.Judging.{IsAsked, HasMembers, PassesStep, RefusesAt};
+ghost use Rattle.cr_class.specs.Judging.{IsAsked, HasMembers, PassesStep, RefusesAt, HasNoClash, IsClash};
 
 use crate::files::{unspellable_places, unwritable_places};
-use crate::places::{capture_places, macro_places, made_places, mixed_uses, opaque_places};
+use crate::places::{
+    capture_places, has_clash, macro_places, made_places, mixed_uses, opaque_places,
+};
 use crate::question::{Members, Question};
 use crate::refusal::{Refusal, VerdictFault};
 use crate::target::{compare_shown, first_shown};
@@ -202,8 +204,29 @@ pub fn refuse_capture(
     ensures refused { (r : AnyRefusal) → result ≡ Err (fault.Refused r) → RefusesAt question.now 7 r }
 {
     facts_are_ordered();
-    let places = capture_places(alloc, question.facts, members, question.new)?;
+    let places = capture_places(alloc, question.facts, members)?;
     match least_place(question.snapshot, &places) {
+        None => refuse_clash(alloc, question),
+        Some(place) => Err(VerdictFault::Refused(Refusal::Capture(place))),
+    }
+}
+
+// An entity of the class that would become one with another: the least place of the class shows it.
+fn refuse_clash(alloc: Global, question: &Question) -> Result<(), VerdictFault>
+    requires asked { IsAsked question.now }
+    ensures ok { OnOk result (HasNoClash question.now) }
+    ensures refused { (r : AnyRefusal) → result ≡ Err (fault.Refused r) → IsClash question.now r }
+{
+    let class = question.class.places.items();
+    if !has_clash(
+        alloc,
+        question.facts,
+        question.class.keys.items(),
+        question.new,
+    )? {
+        return Ok(());
+    }
+    match least_place(question.snapshot, class) {
         None => Ok(()),
         Some(place) => Err(VerdictFault::Refused(Refusal::Capture(place))),
     }

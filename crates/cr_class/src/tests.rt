@@ -294,6 +294,17 @@ const EXTERNAL: &[Told] = &[
     Told::New(Entity::External),
 ];
 
+// `int foo;` and `int bar;` in one unit.
+const TWO_EXTERNALS: &[Told] = &[
+    Told::Declares(Entity::External, 4),
+    Told::Denotes(4, Entity::External),
+    Told::Is(Entity::External, Kind::Object),
+    Told::FileScope(Entity::External),
+    Told::Taken(4, Role::Final),
+    Told::New(Entity::External),
+    Told::Conflict(Entity::External, 13),
+];
+
 // `int foo;` alone, after a line `#define bar 1`.
 const MACRO: &[Told] = &[
     Told::Declares(Entity::External, 18),
@@ -335,6 +346,19 @@ const BODY: &[Told] = &[
     Told::Denotes(36, Entity::External),
     Told::Taken(36, Role::Final),
     Told::BodyParam(36),
+];
+
+// The same, where `bar` is a function of another unit too.
+const BODY_AND_CLASH: &[Told] = &[
+    Told::Declares(Entity::External, 4),
+    Told::Denotes(4, Entity::External),
+    Told::Is(Entity::External, Kind::Function),
+    Told::FileScope(Entity::External),
+    Told::Taken(4, Role::Final),
+    Told::Denotes(36, Entity::External),
+    Told::Taken(36, Role::Final),
+    Told::BodyParam(36),
+    Told::New(Entity::External),
 ];
 
 // `int bar;` and `int f(void){int foo=1;{int foo=2;return bar+foo;}}`, with the inner `foo` meant.
@@ -430,6 +454,24 @@ const VERDICTS: &[VerdictCase] = &[
         new: b"bar",
         root: b"",
         answer: Answer::Capture(4),
+    },
+    VerdictCase {
+        text: b"int foo;\nint bar;\n",
+        told: TWO_EXTERNALS,
+        old: b"foo",
+        asked: Asked::At(4),
+        new: b"bar",
+        root: b"",
+        answer: Answer::Capture(13),
+    },
+    VerdictCase {
+        text: b"int foo(void);\n#define F(bar) bar + foo()\nint g(void){return F(1);}\n",
+        told: BODY_AND_CLASH,
+        old: b"foo",
+        asked: Asked::At(4),
+        new: b"bar",
+        root: b"",
+        answer: Answer::Capture(36),
     },
     VerdictCase {
         text: b"int foo;\n",

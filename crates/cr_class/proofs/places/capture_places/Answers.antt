@@ -15,7 +15,7 @@ pub returns : goal.returns
 returns c x =
     let done = rest_all deref c.loop-fact.fact-iterator c.next.new.self c.next.result c.in-None.is c.next.ensures.steps in
     let all = c.into_iter-fact-iterator.result in
-    let f = (capture_place c.args.facts.now (tree.contains key_cmp c.args.members.now.keys) (tree.contains place_cmp c.args.members.now.places) c.args.new.now) in
+    let f = (capture_place (tree.contains key_cmp c.args.members.now.keys) (tree.contains place_cmp c.args.members.now.places)) in
     let found : c.loop-fact.places.items ≡ filter_map f all =
     sym (append-nil c.loop-fact.places.items) ∙ sym (ap (λ l. c.loop-fact.places.items ++ filter_map f l) done) ∙ c.loop-fact.invariant in
     subst (λ l. Contains l x ↔ IsGiven f c.args.facts.now x) (sym found)

@@ -1,4 +1,4 @@
-use Rattle.std.proofs.Common.{◌≡◌, Bool, refl, sym, ap, ◌∙◌, subst, Bor, None}
+use Rattle.std.proofs.Common.{◌≡◌, Bool, refl, sym, ap, ◌∙◌, subst, inl, inr, Bor, None}
 use Rattle.std.specs.Prelude.{◌↔◌}
 use Rattle.std.specs.List.{Contains}
 use Rattle.std.specs.Option.{option_map}
@@ -10,28 +10,39 @@ use Rattle.cr_class.specs.RenameClass.{key_cmp, place_cmp}
 use Rattle.cr_class.specs.ShownOrder.{shown_cmp}
 use Rattle.cr_class.specs.Declarations.{least}
 use Rattle.cr_class.specs.Judging.{RefusesAt}
-use Rattle.cr_class.specs.Verdict.{IsGiven, is_in_class, is_renamed, capture_place}
+use Rattle.cr_class.specs.Verdict.{IsGiven, IsCaptured, is_in_class, is_renamed, capture_place}
 use Rattle.cr_class.proofs.Candidates.{shown_total}
-use Rattle.cr_class.proofs.Judged.{none_found, some_found, same_refusal, known_capture, passes_capture}
+use Rattle.cr_class.proofs.Judged.{none_found, some_found, same_refusal, on_ok, known_capture, passes_capture}
 use Rattle.cr_class.proofs.steps.refuse_capture.Goals as goal
 
 pub least_place-requires : goal.least_place-requires
-least_place-requires c x has = known_capture c.args.question.now.snapshot.now c.args.question.now.facts.now c.requires.asked.0 (tree.contains key_cmp c.args.members.now.keys) (tree.contains place_cmp c.args.members.now.places) c.args.question.now.new.now x ((c.in_ok-places.ensures x).0 (subst (λ l. Contains l x) c.deref.ensures.value has))
+least_place-requires c x has = known_capture c.args.question.now.snapshot.now c.args.question.now.facts.now c.requires.asked.0 (tree.contains key_cmp c.args.members.now.keys) (tree.contains place_cmp c.args.members.now.places) x ((c.in_ok-places.ensures x).0 (subst (λ l. Contains l x) c.deref.ensures.value has))
 
 pub returns-in-None-clause-ok : goal.returns-in-None-clause-ok
 returns-in-None-clause-ok c =
     let known_is : tree.contains key_cmp c.args.members.now.keys ≡ is_in_class c.args.question.now.class.now = λ i k. c.requires.members.0 k i in
     let renamed_is : tree.contains place_cmp c.args.members.now.places ≡ is_renamed c.args.question.now.class.now = λ i p. c.requires.members.1 p i in
-    let A : (Key → Bool) → (Place → Bool) → Type 0 = λ known renamed. (x : Place) → Contains c.in_ok-places.places.items x ↔ IsGiven (capture_place c.args.question.now.facts.now known renamed c.args.question.now.new.now) c.args.question.now.facts.now x in
+    let A : (Key → Bool) → (Place → Bool) → Type 0 = λ known renamed. (x : Place) → Contains c.in_ok-places.places.items x ↔ IsGiven (capture_place known renamed) c.args.question.now.facts.now x in
     let are : A (is_in_class c.args.question.now.class.now) (is_renamed c.args.question.now.class.now) = subst (A (is_in_class c.args.question.now.class.now)) renamed_is (subst (λ f. A f (tree.contains place_cmp c.args.members.now.places)) known_is c.in_ok-places.ensures) in
-    passes_capture c.args.question.now.facts.now c.args.question.now.class.now c.args.question.now.snapshot.now (option_map (λ (r : Bor PathText). r.now) c.args.question.now.root) c.args.question.now.old.now c.args.question.now.new.now
-    (none_found (shown_cmp c.args.question.now.snapshot.now) (shown_total c.args.question.now.snapshot.now) (IsGiven (capture_place c.args.question.now.facts.now (is_in_class c.args.question.now.class.now) (is_renamed c.args.question.now.class.now) c.args.question.now.new.now) c.args.question.now.facts.now) c.in_ok-places.places.items are (ap (λ l. least (shown_cmp c.args.question.now.snapshot.now) None l) (sym c.deref.ensures.value) ∙ sym c.least_place.ensures ∙ c.in-None.is))
+    let none : (q : Place) → IsCaptured c.args.question.now.facts.now c.args.question.now.class.now q → ⊥ = none_found (shown_cmp c.args.question.now.snapshot.now) (shown_total c.args.question.now.snapshot.now) (IsCaptured c.args.question.now.facts.now c.args.question.now.class.now) c.in_ok-places.places.items are (ap (λ l. least (shown_cmp c.args.question.now.snapshot.now) None l) (sym c.deref.ensures.value) ∙ sym c.least_place.ensures ∙ c.in-None.is) in
+    on_ok c.refuse_clash.result c.refuse_clash.ensures.ok
+    (passes_capture c.args.question.now.facts.now c.args.question.now.class.now c.args.question.now.snapshot.now (option_map (λ (r : Bor PathText). r.now) c.args.question.now.root) c.args.question.now.old.now c.args.question.now.new.now none)
+
+pub returns-in-None-clause-refused : goal.returns-in-None-clause-refused
+returns-in-None-clause-refused c = λ r e.
+    let known_is : tree.contains key_cmp c.args.members.now.keys ≡ is_in_class c.args.question.now.class.now = λ i k. c.requires.members.0 k i in
+    let renamed_is : tree.contains place_cmp c.args.members.now.places ≡ is_renamed c.args.question.now.class.now = λ i p. c.requires.members.1 p i in
+    let A : (Key → Bool) → (Place → Bool) → Type 0 = λ known renamed. (x : Place) → Contains c.in_ok-places.places.items x ↔ IsGiven (capture_place known renamed) c.args.question.now.facts.now x in
+    let are : A (is_in_class c.args.question.now.class.now) (is_renamed c.args.question.now.class.now) = subst (A (is_in_class c.args.question.now.class.now)) renamed_is (subst (λ f. A f (tree.contains place_cmp c.args.members.now.places)) known_is c.in_ok-places.ensures) in
+    let none : (q : Place) → IsCaptured c.args.question.now.facts.now c.args.question.now.class.now q → ⊥ = none_found (shown_cmp c.args.question.now.snapshot.now) (shown_total c.args.question.now.snapshot.now) (IsCaptured c.args.question.now.facts.now c.args.question.now.class.now) c.in_ok-places.places.items are (ap (λ l. least (shown_cmp c.args.question.now.snapshot.now) None l) (sym c.deref.ensures.value) ∙ sym c.least_place.ensures ∙ c.in-None.is) in
+    let clash = c.refuse_clash.ensures.refused r e in
+    subst (RefusesAt c.args.question.now 7) (sym clash.1) (refl, inr (none, clash.2))
 
 pub returns-clause-refused : goal.returns-clause-refused
 returns-clause-refused c r e =
     let known_is : tree.contains key_cmp c.args.members.now.keys ≡ is_in_class c.args.question.now.class.now = λ i k. c.requires.members.0 k i in
     let renamed_is : tree.contains place_cmp c.args.members.now.places ≡ is_renamed c.args.question.now.class.now = λ i p. c.requires.members.1 p i in
-    let A : (Key → Bool) → (Place → Bool) → Type 0 = λ known renamed. (x : Place) → Contains c.in_ok-places.places.items x ↔ IsGiven (capture_place c.args.question.now.facts.now known renamed c.args.question.now.new.now) c.args.question.now.facts.now x in
+    let A : (Key → Bool) → (Place → Bool) → Type 0 = λ known renamed. (x : Place) → Contains c.in_ok-places.places.items x ↔ IsGiven (capture_place known renamed) c.args.question.now.facts.now x in
     let are : A (is_in_class c.args.question.now.class.now) (is_renamed c.args.question.now.class.now) = subst (A (is_in_class c.args.question.now.class.now)) renamed_is (subst (λ f. A f (tree.contains place_cmp c.args.members.now.places)) known_is c.in_ok-places.ensures) in
     subst (RefusesAt c.args.question.now 7) (same_refusal _ r e)
-    (refl, some_found (shown_cmp c.args.question.now.snapshot.now) (shown_total c.args.question.now.snapshot.now) (IsGiven (capture_place c.args.question.now.facts.now (is_in_class c.args.question.now.class.now) (is_renamed c.args.question.now.class.now) c.args.question.now.new.now) c.args.question.now.facts.now) c.in_ok-places.places.items are c.in-Some.place (ap (λ l. least (shown_cmp c.args.question.now.snapshot.now) None l) (sym c.deref.ensures.value) ∙ sym c.least_place.ensures ∙ c.in-Some.is))
+    (refl, inl (some_found (shown_cmp c.args.question.now.snapshot.now) (shown_total c.args.question.now.snapshot.now) (IsCaptured c.args.question.now.facts.now c.args.question.now.class.now) c.in_ok-places.places.items are c.in-Some.place (ap (λ l. least (shown_cmp c.args.question.now.snapshot.now) None l) (sym c.deref.ensures.value) ∙ sym c.least_place.ensures ∙ c.in-Some.is)))
