@@ -201,8 +201,8 @@ impl Typing {
         }
     }
 
-    // What names select in a record, in order.
-    fn names_of(&self, r: RecNo) -> Result<Vec<(Name, Named)>, OutOfMemory>
+    /// What names select in a record, in order.
+    pub fn names_of(&self, r: RecNo) -> Result<Vec<(Name, Named)>, OutOfMemory>
         ensures all { IfOk result (λ names. names.items ≡ (listed self.now r.0).named) }
         ensures apart { AreNew [] (listed self.now r.0).named }
         ensures members { AreNamedBelow (length self.now.all) (listed self.now r.0).named }

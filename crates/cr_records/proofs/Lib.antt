@@ -1,0 +1,5 @@
+mod Adding
+mod Growing
+mod Same
+mod Seen
+mod Writing

@@ -1,0 +1,163 @@
+//! The records of a unit.
+ghost use Rattle.std.specs.Prelude.{◌≡◌, ◌≢◌, ◌+◌, ◌<◌, ◌≤◌, ◌++◌, ◌∷◌, ℕ, [], None, Some, false, eqb, IfOk, IfErr, OnOk, OnErr, IfSome, length, map, option_map, slice_get, vec_len, vec_capacity};
+ghost use Rattle.std.specs.List.{list_any};
+ghost use Rattle.cr_base.specs.declared.cause.IllCause.TheVariants as cause;
+ghost use Rattle.cr_types.specs.Types.{Table, Rec, IsTypeNo, IsRecNo, Keeps, type_at};
+ghost use Rattle.cr_typing.specs.declared.fault.TypeFault.TheVariants as type_fault;
+ghost use Rattle.cr_typing.specs.Members.{AreOfTable, IsMemberNo, IsRefused, clash, added_names, next_member};
+ghost use Rattle.cr_binding.specs.Source.{Source, name_at};
+ghost use Rattle.cr_binding.specs.State.{State};
+ghost use Rattle.cr_binding.specs.Declaring.{failed};
+ghost use Rattle.cr_binding.specs.RecordMembers.{select, add_member, add_anonymous, end_record};
+ghost use Rattle.cr_binding.specs.Tags.{record_of as number_of_record, with_record, new_type, completing};
+ghost use Rattle.cr_records.specs.Kept.{RecordTable, no_records, IsKept, IsOf, is_ended, Writes, selector_for};
+ghost use Rattle.cr_records.specs.Records.{with_records, members_by, member_of, AreSpelled, IsSelected};
+
+use crate::fault::RecordFault;
+use crate::rows::{Member, RecordRow, Selected, Selector};
+use cr_base::{IllCause, Kind, Name, OutOfMemory, RecordKey};
+use cr_types::{RecNo, Ty, TypeNo, Types};
+use cr_typing::{MemberNo, Named, TypeFault, Typing};
+use indexmap::IndexSet;
+use std::alloc::Global;
+use std::marker::Model;
+
+/// The structures and unions of a unit, and what selects in them.
+#[derive(Drop)]
+pub struct Records {
+    records: Vec<RecordRow>,
+    typing: Typing,
+    selectors: Vec<Selector>,
+    completed: IndexSet<u32>,
+    ended: Vec<RecNo>,
+    complete: IndexSet<RecNo>,
+}
+
+impl Model for Records {
+    ghost use Rattle.cr_records.specs.Kept.{RecordTable, IsKept, AreEnded};
+
+    ghost Value = { RecordTable };
+
+    ghost view = { λ a. record { records = a.records.items; typing = a.typing; selectors = a.selectors.items; completed = a.completed.keys; ended = a.ended.items } };
+
+    ghost invariant = { λ a. IsKept (record { records = a.records.items; typing = a.typing; selectors = a.selectors.items; completed = a.completed.keys; ended = a.ended.items }) × AreEnded a.ended.items a.complete.keys };
+}
+
+/// The record of a type that these types gave, if it is one.
+pub fn record_of(types: &Types, ty: TypeNo) -> Option<RecNo>
+    requires { IsTypeNo types.now ty }
+    ensures number { option_map (λ r. r.0) result ≡ number_of_record (type_at types.now ty) }
+    ensures given { IfSome result (λ r. IsRecNo types.now r) }
+{
+    match types.get(ty) {
+        Ty::Rec(r) => Some(r),
+        _ => None,
+    }
+}
+
+// Why a member isn't added.
+fn refused(fault: TypeFault) -> RecordFault
+    ensures { (i : ℕ) → result ≡ RecordFault.Redeclared i → fault ≡ type_fault.Redeclared i }
+{
+    match fault {
+        TypeFault::Redeclared(token) => RecordFault::Redeclared(token),
+        _ => RecordFault::OutOfMemory,
+    }
+}
+
+// Puts a member into a record, whose list may have ended.
+fn put_member(
+    typing: &mut Typing,
+    types: &Types,
+    whole: bool,
+    r: RecNo,
+    name: Option<Name>,
+    ty: TypeNo,
+    token: u32,
+) -> Result<MemberNo, TypeFault>
+    requires held { AreOfTable types.now typing.old }
+    requires rec_given { IsRecNo types.now r }
+    requires ty_given { IsTypeNo types.now ty }
+    ensures number { IfOk result (λ m. m ≡ next_member typing.old) }
+    ensures ok { OnOk result (Writes whole typing.old (record { rec = r; name = name; ty = ty; token = token }) (added_names typing.old (record { rec = r; name = name; ty = ty; token = token }) (type_at types.now ty)) typing.new) }
+    ensures allowed { OnOk result (clash typing.old (record { rec = r; name = name; ty = ty; token = token }) (type_at types.now ty) ≡ None) }
+    ensures refused { IfErr result (λ f. IsRefused typing.old (record { rec = r; name = name; ty = ty; token = token }) (type_at types.now ty) f) }
+    ensures held { AreOfTable types.now typing.new }
+    ensures err { OnErr result (typing.new ≡ typing.old) }
+{
+    let member = typing.add_member(types, r, name, ty, token)?;
+    if whole {
+        typing.finish(r);
+    }
+    Ok(member)
+}
+
+// Puts a selector at the end, where there is room for it.
+fn push_selector(selectors: &mut Vec<Selector>, selector: Selector)
+    requires { vec_len selectors.old < vec_capacity selectors.old }
+    ensures items { selectors.new.items ≡ selectors.old.items ++ selector ∷ [] }
+    ensures room { vec_capacity selectors.old ≤ vec_capacity selectors.new }
+{
+    match selectors.push(selector) {
+        Ok(()) => {}
+        Err(_) => unreachable!(),
+    }
+}
+
+// The names of an anonymous record select in another, where there is room for them.
+fn push_selectors(selectors: &mut Vec<Selector>, holder: RecNo, names: &[(Name, Named)])
+    requires { vec_len selectors.old + length names.now ≤ vec_capacity selectors.old }
+    ensures { selectors.new.items ≡ selectors.old.items ++ map (selector_for holder) names.now }
+{
+    for (_, named) in names {
+        let member = named.member;
+        push_selector(selectors, Selector { holder, member });
+    }
+}
+
+// Puts a record at the end, where there is room for it.
+fn push_ended(ended: &mut Vec<RecNo>, r: RecNo)
+    requires { vec_len ended.old < vec_capacity ended.old }
+    ensures { ended.new.items ≡ ended.old.items ++ r ∷ [] }
+{
+    match ended.push(r) {
+        Ok(()) => {}
+        Err(_) => unreachable!(),
+    }
+}
+
+// Puts a record at the end, where there is room for it.
+fn push_record(records: &mut Vec<RecordRow>, row: RecordRow)
+    requires { vec_len records.old < vec_capacity records.old }
+    ensures { records.new.items ≡ records.old.items ++ row ∷ [] }
+{
+    match records.push(row) {
+        Ok(()) => {}
+        Err(_) => unreachable!(),
+    }
+}
+
+impl Records {
+    /// No records.
+    pub fn new(alloc: Global) -> Records
+        ensures none { result ≡ no_records }
+        ensures of { (t : Table) → t.records ≡ [] → IsOf t result }
+    {
+        Records {
+            records: Vec::new(alloc),
+            typing: Typing::new(alloc),
+            selectors: Vec::new(alloc),
+            completed: IndexSet::new(alloc),
+            ended: Vec::new(alloc),
+            complete: IndexSet::new(alloc),
+        }
+    }
+
+    /// All members by their numbers, for the types of operators and of initialisers.
+    pub fn typing(&self) -> &Typing
+        ensures typing { result.now ≡ self.now.typing }
+        ensures kept { IsKept self.now }
+    {
+        &self.typing
+    }
+}
