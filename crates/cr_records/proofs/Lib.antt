@@ -1,4 +1,5 @@
 mod Adding
+mod Calls
 mod Growing
 mod Same
 mod Seen

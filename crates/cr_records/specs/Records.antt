@@ -1,5 +1,5 @@
 -- What binding sees of the records that are kept.
-use Rattle.std.specs.Prelude.{◌≡◌, ℕ, Result, Ok, Err, List, [], ◌∷◌, map}
+use Rattle.std.specs.Prelude.{◌≡◌, ℕ, Some, Result, Ok, Err, List, [], ◌∷◌, map}
 use Rattle.cr_base.specs.declared.token.Name.{Name}
 use Rattle.cr_base.specs.declared.cause.IllCause.{IllCause}
 use Rattle.cr_base.specs.declared.cause.IllCause.TheVariants as cause
@@ -10,6 +10,8 @@ use Rattle.cr_typing.specs.Members.{Members}
 use Rattle.cr_binding.specs.Source.{Source, name_at}
 use Rattle.cr_binding.specs.Declaring.{failed}
 use Rattle.cr_binding.specs.State.{Record, Written, Member, State}
+use Rattle.cr_binding.specs.RecordMembers.{add_member, add_anonymous}
+use Rattle.cr_binding.specs.Tags.{record_of as number_of_record}
 use Rattle.cr_records.specs.declared.fault.RecordFault.{RecordFault}
 use Rattle.cr_records.specs.declared.fault.RecordFault.TheVariants as fault
 use Rattle.cr_records.specs.declared.rows.RecordRow.{RecordRow}
@@ -78,6 +80,13 @@ Does P t old f new = (source : Source) (s : State) → P source → AreSpelled s
 -- names stay spelled
 abbrev pub KeepsSpelling : (Source → Type 0) → RecordTable → RecordTable → Type 0
 KeepsSpelling P old new = (source : Source) → P source → AreSpelled source old → AreSpelled source new
+
+-- a member is added to record number r: one with its name at token i, or an anonymous one, whose names select in r too
+abbrev pub adding : ℕ → ℕ → CType → Source → State → State
+adding r i c t s = add_member t (Some r) (Some i) c s
+
+abbrev pub splicing : ℕ → CType → Source → State → State
+splicing r c t s = add_anonymous t (Some r) (number_of_record c) c s
 
 -- a name is there already, so that nothing is done: the token is that of the fault
 abbrev pub Repeats : (Source → Type 0) → Table → RecordTable → (Source → State → State) → ℕ → Type 0

@@ -8,10 +8,10 @@ ghost use Rattle.cr_typing.specs.Members.{AreOfTable, IsMemberNo, IsRefused, cla
 ghost use Rattle.cr_binding.specs.Source.{Source, name_at};
 ghost use Rattle.cr_binding.specs.State.{State};
 ghost use Rattle.cr_binding.specs.Declaring.{failed};
-ghost use Rattle.cr_binding.specs.RecordMembers.{select, add_member, add_anonymous, end_record};
+ghost use Rattle.cr_binding.specs.RecordMembers.{select, end_record};
 ghost use Rattle.cr_binding.specs.Tags.{record_of as number_of_record, with_record, new_type, completing};
 ghost use Rattle.cr_records.specs.Kept.{RecordTable, no_records, IsKept, IsOf, is_ended, Writes, selector_for};
-ghost use Rattle.cr_records.specs.Records.{with_records, members_by, member_of, AreSpelled, IsSelected};
+ghost use Rattle.cr_records.specs.Records.{with_records, members_by, member_of, AreSpelled, IsSelected, IsNamed, Always, Does, KeepsSpelling, Repeats, Refuses, adding, splicing};
 
 use crate::fault::RecordFault;
 use crate::rows::{Member, RecordRow, Selected, Selector};
@@ -159,5 +159,131 @@ impl Records {
         ensures kept { IsKept self.now }
     {
         &self.typing
+    }
+
+    /// Whether a record's list of members ended (C11 6.7.2.1p8).
+    pub fn is_complete(&self, r: RecNo) -> bool
+        ensures { result ≡ is_ended self.now.ended r.0 }
+    {
+        self.complete.contains(&r)
+    }
+
+    /// Adds a member with a name to a record, at the token that declares it (C11 6.7.2.1p1).
+    ///
+    /// `Redeclared`: the record has a member of that name. Then nothing is added.
+    pub fn add_member(
+        &mut self,
+        types: &Types,
+        r: RecNo,
+        name: Name,
+        ty: TypeNo,
+        token: u32,
+    ) -> Result<(), RecordFault>
+        requires of { IsOf types.now self.old }
+        requires rec_given { IsRecNo types.now r }
+        requires ty_given { IsTypeNo types.now ty }
+        ensures ok { OnOk result (Does (IsNamed token name) types.now self.old (adding r.0 token (type_at types.now ty)) self.new) }
+        ensures ill { IfErr result (λ f. Refuses f (Repeats (IsNamed token name) types.now self.old (adding r.0 token (type_at types.now ty)))) }
+        ensures spelled { OnOk result (KeepsSpelling (IsNamed token name) self.old self.new) }
+        ensures of { IsOf types.now self.new }
+        ensures err { OnErr result (self.new ≡ self.old) }
+    {
+        self.selectors.reserve(1)?;
+        let whole = self.complete.contains(&r);
+        match put_member(&mut self.typing, types, whole, r, Some(name), ty, token) {
+            Ok(member) => {
+                push_selector(&mut self.selectors, Selector { holder: r, member });
+                Ok(())
+            }
+            Err(fault) => Err(refused(fault)),
+        }
+    }
+
+    // The names of record q, which is an anonymous member of record r, select in r too.
+    fn bring_in(
+        &mut self,
+        types: &Types,
+        r: RecNo,
+        q: RecNo,
+        ty: TypeNo,
+    ) -> Result<(), RecordFault>
+        requires of { IsOf types.now self.old }
+        requires rec_given { IsRecNo types.now r }
+        requires ty_given { IsTypeNo types.now ty }
+        requires is { type_at types.now ty ≡ Rec q.0 }
+        ensures ok { OnOk result (Does Always types.now self.old (splicing r.0 (type_at types.now ty)) self.new) }
+        ensures ill { IfErr result (λ f. Refuses f (Repeats Always types.now self.old (splicing r.0 (type_at types.now ty)))) }
+        ensures spelled { OnOk result (KeepsSpelling Always self.old self.new) }
+        ensures of { IsOf types.now self.new }
+        ensures err { OnErr result (self.new ≡ self.old) }
+    {
+        let names = self.typing.names_of(q)?;
+        self.selectors.reserve(names.len())?;
+        let whole = self.complete.contains(&r);
+        match put_member(&mut self.typing, types, whole, r, None, ty, 0) {
+            Ok(_) => {
+                push_selectors(&mut self.selectors, r, &names);
+                Ok(())
+            }
+            Err(fault) => Err(refused(fault)),
+        }
+    }
+
+    /// Adds an anonymous member to a record: the names of a structure or union select in it too (C11 6.7.2.1p13). Where
+    /// the type is none of these, nothing is added.
+    ///
+    /// `Redeclared`: the record has a member of one of the names. Then nothing is added.
+    pub fn add_anonymous(
+        &mut self,
+        types: &Types,
+        r: RecNo,
+        ty: TypeNo,
+    ) -> Result<(), RecordFault>
+        requires of { IsOf types.now self.old }
+        requires rec_given { IsRecNo types.now r }
+        requires ty_given { IsTypeNo types.now ty }
+        ensures ok { OnOk result (Does Always types.now self.old (splicing r.0 (type_at types.now ty)) self.new) }
+        ensures ill { IfErr result (λ f. Refuses f (Repeats Always types.now self.old (splicing r.0 (type_at types.now ty)))) }
+        ensures spelled { OnOk result (KeepsSpelling Always self.old self.new) }
+        ensures of { IsOf types.now self.new }
+        ensures err { OnErr result (self.new ≡ self.old) }
+    {
+        match types.get(ty) {
+            Ty::Rec(q) => self.bring_in(types, r, q, ty),
+            _ => Ok(()),
+        }
+    }
+
+    /// The list of a record's members ends, so that it is complete (C11 6.7.2.1p8).
+    pub fn end_record(&mut self, r: RecNo) -> Result<(), OutOfMemory>
+        ensures ok { OnOk result ((t : Table) (s : State) → with_records t self.new s ≡ end_record (Some r.0) (with_records t self.old s)) }
+        ensures spelled { OnOk result (KeepsSpelling Always self.old self.new) }
+        ensures of { (t : Table) → IsOf t self.old → IsOf t self.new }
+        ensures err { OnErr result (self.new ≡ self.old) }
+    {
+        self.ended.reserve(1)?;
+        let _ = self.complete.insert(r)?;
+        self.typing.finish(r);
+        push_ended(&mut self.ended, r);
+        Ok(())
+    }
+
+    /// Whether the tag that is declared first at a token was completed (C11 6.7.2.3p1).
+    pub fn is_completed(&self, first: u32) -> bool
+        ensures { result ≡ list_any (eqb first) self.now.completed }
+    {
+        self.completed.contains(&first)
+    }
+
+    /// The tag that is declared first at a token, which wasn't completed, is completed.
+    pub fn complete(&mut self, first: u32) -> Result<(), OutOfMemory>
+        requires fresh { list_any (eqb first) self.old.completed ≡ false }
+        ensures ok { OnOk result ((t : Table) (s : State) → with_records t self.new s ≡ completing first (with_records t self.old s)) }
+        ensures spelled { KeepsSpelling Always self.old self.new }
+        ensures of { (t : Table) → IsOf t self.old → IsOf t self.new }
+        ensures err { OnErr result (self.new ≡ self.old) }
+    {
+        let _ = self.completed.insert(first)?;
+        Ok(())
     }
 }
