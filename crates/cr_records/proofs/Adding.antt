@@ -1,8 +1,7 @@
 -- That members are added as binding says.
-use Rattle.std.proofs.Common.{◌≡◌, ℕ, ◌+◌, ◌<◌, Bool, true, false, cond, unwrap_or, Option, None, Some, List, [], ◌∷◌, ◌++◌, map, filter, length, refl, sym, ap, subst, ◌∙◌, arith, length-append}
+use Rattle.std.proofs.Common.{◌≡◌, ℕ, ◌+◌, unwrap_or, Option, None, Some, List, [], ◌∷◌, ◌++◌, map, length, refl, sym, ap, subst, ◌∙◌, arith, length-append}
 use Rattle.std.proofs.lemmas.List.{map-append}
 use Rattle.cr_base.specs.declared.token.Name.{Name}
-use Rattle.cr_base.specs.declared.cause.IllCause.TheVariants as cause
 use Rattle.cr_types.specs.declared.RecNo.{RecNo}
 use Rattle.cr_types.specs.Types.{CType, Table, type_at}
 use Rattle.cr_typing.specs.declared.members.MemberData.{MemberData}
@@ -13,16 +12,16 @@ use Rattle.cr_typing.specs.declared.fault.TypeFault.{TypeFault}
 use Rattle.cr_typing.specs.declared.fault.TypeFault.TheVariants as type_fault
 use Rattle.cr_typing.specs.Members.{Members, Listed, listed, placed, next_member, redeclared, RefusesNames}
 use Rattle.cr_binding.specs.Source.{Source, name_at}
-use Rattle.cr_binding.specs.State.{Written, Member, State}
-use Rattle.cr_binding.specs.RecordMembers.{members_of, written_in, write_unless, write, named_member, add_member, brought_in, add_anonymous}
+use Rattle.cr_binding.specs.State.{Member, State}
+use Rattle.cr_binding.specs.RecordMembers.{members_of, write_unless, write, named_member}
 use Rattle.cr_records.specs.declared.fault.RecordFault.{RecordFault}
 use Rattle.cr_records.specs.declared.fault.RecordFault.TheVariants as fault
 use Rattle.cr_records.specs.declared.rows.Selector.{Selector}
-use Rattle.cr_records.specs.Kept.{RecordTable, IsKept, AreThere, Writes, selector_for, no_name, placed_at, name_of, named_by, selects_in, is_ended}
+use Rattle.cr_records.specs.Kept.{RecordTable, IsKept, AreThere, selector_for, no_name, name_of, named_by}
 use Rattle.cr_records.specs.Records.{with_records, record_of, written_by, placed_in, member_by, AreSpelledBy, AreSpelled, Refuses}
 use Rattle.cr_records.proofs.Same.{AreSame, least_same}
-use Rattle.cr_records.proofs.Seen.{members_seen, names_seen, count_seen, map_map, spelled_filter}
-use Rattle.cr_records.proofs.Writing.{placed_stays, members_stay, spelled_stay, put_at, there_filter}
+use Rattle.cr_records.proofs.Seen.{names_seen, count_seen}
+use Rattle.cr_records.proofs.Writing.{placed_stays, members_stay, spelled_stay, put_at}
 
 pub spelled_append : (source : Source) (m : Members) (vs ws : List Selector) → AreSpelledBy source m vs → AreSpelledBy source m ws → AreSpelledBy source m (vs ++ ws)
 spelled_append source m [] ws h g = g
@@ -121,9 +120,10 @@ module _ (t : Table) (x : RecordTable) (new : Members) (member : MemberData) (gr
   pub brought_spelled : (source : Source) (q : RecNo) (ws : List Selector) → AreThere x.typing ws → AreSpelledBy source x.typing ws
       → AreSpelledBy source new (map (selector_for q) (map (named_by x.typing) ws))
   brought_spelled source q [] there h = tt
-  brought_spelled source q (w ∷ ws) there h =
-      (subst (λ p. name_of p ≡ name_at source p.member.token) (sym (placed_stays x.typing new (placed x.typing member) grown w.member there.0)) h.0,
-      brought_spelled source q ws there.1 h.1)
+  brought_spelled source q (w ∷ ws) there h = (
+    subst (λ p. name_of p ≡ name_at source p.member.token) (sym (placed_stays x.typing new (placed x.typing member) grown w.member there.0)) h.0,
+    brought_spelled source q ws there.1 h.1,
+  )
 
 pub brought_same : (source : Source) (t : Table) (m : Members) (q : ℕ) (ws : List Selector) → AreSpelledBy source m ws
     → AreSame source (map (named_by m) ws) (map {A = Member} (λ k. record k { holder = q }) (map (member_by t m) ws))

@@ -1,5 +1,5 @@
 -- What the calls that add members do.
-use Rattle.std.proofs.Common.{◌≡◌, ℕ, Bool, Option, None, Some, List, [], ◌∷◌, ◌++◌, map, filter, refl, sym, ap, subst, ◌∙◌}
+use Rattle.std.proofs.Common.{◌≡◌, ℕ, Bool, None, Some, List, [], ◌∷◌, ◌++◌, map, filter, refl, sym, ap, subst, ◌∙◌}
 use Rattle.cr_base.specs.declared.token.Name.{Name}
 use Rattle.cr_types.specs.declared.RecNo.{RecNo}
 use Rattle.cr_types.specs.declared.TypeNo.{TypeNo}
@@ -12,9 +12,9 @@ use Rattle.cr_typing.specs.declared.members.MemberData.{MemberData}
 use Rattle.cr_typing.specs.declared.members.MemberNo.{MemberNo}
 use Rattle.cr_typing.specs.declared.members.Named.{Named}
 use Rattle.cr_typing.specs.Members.{Members, listed, placed, added_names, redeclared, IsRefused, next_member}
-use Rattle.cr_binding.specs.Source.{Source, name_at}
+use Rattle.cr_binding.specs.Source.{Source}
 use Rattle.cr_binding.specs.State.{Member, State}
-use Rattle.cr_binding.specs.RecordMembers.{write, add_member, named_member, brought_in, add_anonymous, members_of}
+use Rattle.cr_binding.specs.RecordMembers.{write, named_member, brought_in, add_anonymous}
 use Rattle.cr_records.specs.declared.rows.Selector.{Selector}
 use Rattle.cr_records.specs.Kept.{RecordTable, IsKept, AreThere, Writes, selector_for, named_by, selects_in, is_ended}
 use Rattle.cr_records.specs.Records.{with_records, member_by, AreSpelled, IsNamed, Does, KeepsSpelling, Repeats, Refuses, Always, adding, splicing}

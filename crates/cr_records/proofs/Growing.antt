@@ -1,16 +1,14 @@
 -- That the same records are seen as types are added.
-use Rattle.std.proofs.Common.{◌≡◌, ℕ, ◌<◌, zero, suc, Option, None, Some, List, [], ◌∷◌, map, length, slice_get, get_or, refl, sym, ap, ◌∙◌}
+use Rattle.std.proofs.Common.{◌≡◌, ℕ, zero, suc, Some, List, [], ◌∷◌, map, slice_get, refl, ap, ◌∙◌}
 use Rattle.std.proofs.lemmas.Option.{slice_get-get_or}
 use Rattle.cr_types.specs.declared.Record.{Record as TypeRecord}
 use Rattle.cr_types.specs.declared.RecNo.{RecNo}
-use Rattle.cr_types.specs.Types.{Table, IsTypeNo, IsRecNo, Keeps, type_at}
+use Rattle.cr_types.specs.Types.{Table, IsTypeNo, Keeps, type_at}
 use Rattle.cr_typing.specs.declared.members.Placed.{Placed}
 use Rattle.cr_typing.specs.Members.{Members, AreOfTable}
-use Rattle.cr_binding.specs.State.{State}
-use Rattle.cr_records.specs.declared.rows.RecordRow.{RecordRow}
 use Rattle.cr_records.specs.declared.rows.Selector.{Selector}
-use Rattle.cr_records.specs.Kept.{RecordTable, IsKept, IsOf, AreThere, no_member, placed_at}
-use Rattle.cr_records.specs.Records.{with_records, record_of, written_by, member_by, placed_in}
+use Rattle.cr_records.specs.Kept.{AreThere, no_member, placed_at}
+use Rattle.cr_records.specs.Records.{record_of, written_by, member_by}
 use Rattle.cr_records.specs.Laws.{RecordsStay}
 
 module _ (t u : Table) (keeps : Keeps t u) where
@@ -34,12 +32,13 @@ module _ (t u : Table) (keeps : Keeps t u) where
       λ j. record { holder = w.holder.0; own = p.member.rec.0; place = p.place; token = p.member.token; type = e j } ∷ r j
 
 pub records_stay : RecordsStay
-records_stay t u x keeps same kept of =
-    (record { held = held_stays t u keeps x.typing of.held; unions = ap (map {A = TypeRecord} (λ r. r.union)) same ∙ of.unions },
-    λ s j. record s {
-      records = map record_of x.records;
-      written = written_stay t u keeps x.typing.all (λ i p at. (of.held i p at).0) j;
-      members = members_stay t u keeps x.typing of.held x.selectors kept.there j;
-      completed = x.completed;
-      ended = map {A = RecNo} (λ r. r.0) x.ended;
-    })
+records_stay t u x keeps same kept of = (
+  record { held = held_stays t u keeps x.typing of.held; unions = ap (map {A = TypeRecord} (λ r. r.union)) same ∙ of.unions },
+  λ s j. record s {
+    records = map record_of x.records;
+    written = written_stay t u keeps x.typing.all (λ i p at. (of.held i p at).0) j;
+    members = members_stay t u keeps x.typing of.held x.selectors kept.there j;
+    completed = x.completed;
+    ended = map {A = RecNo} (λ r. r.0) x.ended;
+  },
+)

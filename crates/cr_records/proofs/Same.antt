@@ -1,8 +1,7 @@
 -- Names as they are kept, and the members that binding lists.
-use Rattle.std.proofs.Common.{◌≡◌, ◌⊎◌, inl, inr, ℕ, Bool, true, false, cond, eqb, ◌||◌, is_some, Option, None, Some, List, [], ◌∷◌, map, filter, refl, sym, ap, subst, ◌∙◌, arith}
-use Rattle.std.specs.Prelude.{nat_lt, if◌then◌else◌}
+use Rattle.std.proofs.Common.{◌≡◌, ℕ, Bool, true, false, cond, eqb, ◌||◌, is_some, Option, None, Some, List, [], ◌∷◌, map, filter, refl, sym, ap, subst, ◌∙◌, arith}
 use Rattle.std.specs.List.{list_any, find as first_of_list}
-use Rattle.std.proofs.lemmas.Bool.Decides.{eqb_tells, nat_tests}
+use Rattle.std.proofs.lemmas.Bool.Decides.{nat_tests}
 use Rattle.cr_base.specs.declared.token.Name.{Name}
 use Rattle.cr_typing.specs.declared.members.Named.{Named}
 use Rattle.cr_typing.specs.Members.{Members, Listed, find, repeated, least_token, lesser}
@@ -87,7 +86,7 @@ found_both s t m name (w ∷ ws) h = by (eqb name.0 (name_of (placed_at m w.memb
     by : (b : Bool) → b ≡ eqb (name_at s (placed_at m w.member).member.token).0 name.0
         → AreFound t m (find name (map (named_by m) ws)) (first_of_list (is_named s name) (map (member_by t m) ws))
         → AreFound t m (cond b (Some (named_by m w).1) (find name (map (named_by m) ws)))
-          (first_of_list (is_named s name) (member_by t m w ∷ map (member_by t m) ws))
+        (first_of_list (is_named s name) (member_by t m w ∷ map (member_by t m) ws))
     by true e rest = (w, refl, ap (λ b. cond b (Some (member_by t m w)) (first_of_list (is_named s name) (map (member_by t m) ws))) (sym e))
     by false e rest =
         subst (AreFound t m (find name (map (named_by m) ws)))

@@ -1,20 +1,17 @@
 -- What binding sees of records by their numbers.
-use Rattle.std.proofs.Common.{◌≡◌, ◌⊎◌, inl, inr, ℕ, Bool, true, false, cond, eqb, ◌&&◌, ◌||◌, not, Option, None, Some, List, [], ◌∷◌, ◌++◌, map, filter, length, slice_get, refl, sym, ap, subst, ◌∙◌, arith}
-use Rattle.std.specs.Prelude.{if◌then◌else◌}
+use Rattle.std.proofs.Common.{◌≡◌, ℕ, Bool, true, false, cond, eqb, ◌||◌, Some, List, [], ◌∷◌, map, filter, length, slice_get, refl, sym, ap, subst, ◌∙◌}
 use Rattle.std.specs.List.{list_any}
 use Rattle.std.proofs.lemmas.List.{length-map}
-use Rattle.cr_base.specs.declared.token.Name.{Name}
 use Rattle.cr_types.specs.declared.RecNo.{RecNo}
-use Rattle.cr_types.specs.Types.{CType, Table, type_at}
+use Rattle.cr_types.specs.Types.{Table, type_at}
 use Rattle.cr_typing.specs.declared.members.MemberNo.{MemberNo}
-use Rattle.cr_typing.specs.declared.members.Named.{Named}
 use Rattle.cr_typing.specs.declared.members.Placed.{Placed}
-use Rattle.cr_typing.specs.Members.{Members, listed, is_empty}
+use Rattle.cr_typing.specs.Members.{Members, listed}
 use Rattle.cr_binding.specs.Source.{Source}
 use Rattle.cr_binding.specs.State.{Written, Member, State}
 use Rattle.cr_binding.specs.RecordMembers.{written_in, members_of, is_complete}
 use Rattle.cr_records.specs.declared.rows.Selector.{Selector}
-use Rattle.cr_records.specs.Kept.{RecordTable, Lists, IsKept, placed_at, named_by, selects_in, is_written_in, is_ended}
+use Rattle.cr_records.specs.Kept.{RecordTable, IsKept, selects_in, is_written_in, is_ended}
 use Rattle.cr_records.specs.Records.{with_records, written_by, member_by, AreSpelledBy, AreSpelled}
 use Rattle.cr_records.proofs.Same.{AreSame, same_names}
 

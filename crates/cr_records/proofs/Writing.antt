@@ -1,14 +1,13 @@
 -- That a member that is written in a record leaves everything as it is kept.
-use Rattle.std.proofs.Common.{◌≡◌, ◌≢◌, ◌⊎◌, inl, inr, ℕ, zero, suc, ◌+◌, ◌<◌, Bool, true, false, cond, eqb, ◌&&◌, not, Option, None, Some, List, [], ◌∷◌, ◌++◌, map, filter, length, slice_get, refl, sym, ap, subst, ◌∙◌, arith, length-append, true≢false}
+use Rattle.std.proofs.Common.{◌≡◌, ◌≢◌, ◌⊎◌, inl, inr, ℕ, zero, suc, ◌+◌, ◌<◌, Bool, true, false, cond, eqb, ◌&&◌, not, Some, List, [], ◌∷◌, ◌++◌, map, filter, length, slice_get, refl, sym, ap, subst, ◌∙◌, arith, length-append, true≢false}
 use Rattle.std.specs.Prelude.{if◌then◌else◌, slice_index_or}
-use Rattle.std.specs.List.{list_any}
 use Rattle.std.proofs.lemmas.List.{append-nil, map-append, get_or_append_left}
 use Rattle.std.proofs.lemmas.List.Elements.{filter-append}
 use Rattle.std.proofs.lemmas.Bool.Decides.{eqb_tells}
 use Rattle.std.proofs.lemmas.Bool.{ne_eqb}
 use Rattle.cr_base.specs.declared.token.Name.{Name}
 use Rattle.cr_types.specs.declared.RecNo.{RecNo}
-use Rattle.cr_types.specs.Types.{CType, Table, type_at}
+use Rattle.cr_types.specs.Types.{Table}
 use Rattle.cr_typing.specs.declared.members.MemberData.{MemberData}
 use Rattle.cr_typing.specs.declared.members.MemberNo.{MemberNo}
 use Rattle.cr_typing.specs.declared.members.Named.{Named}
@@ -199,22 +198,24 @@ module _ (x : RecordTable) (new : Members) (member : MemberData) (named : List (
       × (map {A = MemberNo} (λ k. slice_get new.all k.0) y.declared ≡ map Some (filter (is_written_in r) new.all))
       × (y.ended ≡ (is_ended x.ended r && not (is_empty y.declared)))
       × (is_empty y.declared ≡ true → y.named ≡ [])
-  this_listed y e =
-      (ap (λ z. z.named) e ∙ sym these_names,
-      ap (λ z. map {A = MemberNo} (λ k. slice_get new.all k.0) z.declared) e ∙ these_declared,
-      ap (λ z. z.ended) e ∙ this_ended ∙ ap (λ z. is_ended x.ended r && not (is_empty z.declared)) (sym e),
-      λ none. absurd (true≢false (sym none ∙ ap (λ z. is_empty z.declared) e ∙ not_empty (listed x.typing r).declared n)))
+  this_listed y e = (
+    ap (λ z. z.named) e ∙ sym these_names,
+    ap (λ z. map {A = MemberNo} (λ k. slice_get new.all k.0) z.declared) e ∙ these_declared,
+    ap (λ z. z.ended) e ∙ this_ended ∙ ap (λ z. is_ended x.ended r && not (is_empty z.declared)) (sym e),
+    λ none. absurd (true≢false (sym none ∙ ap (λ z. is_empty z.declared) e ∙ not_empty (listed x.typing r).declared n)),
+  )
 
   other_listed : (q : ℕ) → q ≢ r → (y : Listed) → y ≡ listed x.typing q
       → (y.named ≡ map (named_by new) (filter (selects_in q) written.selectors))
       × (map {A = MemberNo} (λ k. slice_get new.all k.0) y.declared ≡ map Some (filter (is_written_in q) new.all))
       × (y.ended ≡ (is_ended x.ended q && not (is_empty y.declared)))
       × (is_empty y.declared ≡ true → y.named ≡ [])
-  other_listed q ne y e =
-      (ap (λ z. z.named) e ∙ (kept.lists q).named ∙ sym (other_names q ne),
-      ap (λ z. map {A = MemberNo} (λ k. slice_get new.all k.0) z.declared) e ∙ other_declared q ne,
-      ap (λ z. z.ended) e ∙ (kept.lists q).ended ∙ ap (λ z. is_ended x.ended q && not (is_empty z.declared)) (sym e),
-      λ none. ap (λ z. z.named) e ∙ (kept.lists q).unnamed (ap (λ z. is_empty z.declared) (sym e) ∙ none))
+  other_listed q ne y e = (
+    ap (λ z. z.named) e ∙ (kept.lists q).named ∙ sym (other_names q ne),
+    ap (λ z. map {A = MemberNo} (λ k. slice_get new.all k.0) z.declared) e ∙ other_declared q ne,
+    ap (λ z. z.ended) e ∙ (kept.lists q).ended ∙ ap (λ z. is_ended x.ended q && not (is_empty z.declared)) (sym e),
+    λ none. ap (λ z. z.named) e ∙ (kept.lists q).unnamed (ap (λ z. is_empty z.declared) (sym e) ∙ none),
+  )
 
   lists_from : (q : ℕ) → ((listed new q).named ≡ map (named_by new) (filter (selects_in q) written.selectors))
       × (map {A = MemberNo} (λ k. slice_get new.all k.0) (listed new q).declared ≡ map Some (filter (is_written_in q) new.all))

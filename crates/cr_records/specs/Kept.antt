@@ -1,5 +1,5 @@
 -- What is kept of records: the names that select in them are numbers of members.
-use Rattle.std.specs.Prelude.{◌≡◌, ℕ, ◌<◌, Bool, true, not, eqb, if◌then◌else◌, ◌++◌, ◌≢◌, ◌==◌, ◌&&◌, Some, None, unwrap_or, List, [], ◌∷◌, map, filter, length, slice_get, slice_index_or}
+use Rattle.std.specs.Prelude.{◌≡◌, ℕ, ◌<◌, Bool, true, not, eqb, if◌then◌else◌, ◌++◌, ◌≢◌, ◌==◌, ◌&&◌, Option, Some, None, unwrap_or, List, [], ◌∷◌, map, filter, length, slice_get, slice_index_or}
 use Rattle.std.specs.List.{list_any}
 use Rattle.cr_base.specs.declared.token.Name.{Name}
 use Rattle.cr_types.specs.declared.RecNo.{RecNo}
@@ -40,8 +40,11 @@ placed_at m k = slice_index_or m.all k.0 no_member
 abbrev pub no_name : Name
 no_name = record { 0 = 0 }
 
+abbrev pub spelling : Option Name → Name
+spelling name = unwrap_or name no_name
+
 abbrev pub name_of : Placed → Name
-name_of p = unwrap_or p.member.name no_name
+name_of p = spelling p.member.name
 
 -- ---- what is true of every table
 

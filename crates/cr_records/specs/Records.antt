@@ -1,10 +1,12 @@
 -- What binding sees of the records that are kept.
-use Rattle.std.specs.Prelude.{◌≡◌, ℕ, Some, Result, Ok, Err, List, [], ◌∷◌, map}
+use Rattle.std.specs.Prelude.{◌≡◌, ℕ, Some, Result, Ok, Err, List, [], ◌∷◌, ◌++◌, map}
 use Rattle.cr_base.specs.declared.token.Name.{Name}
 use Rattle.cr_base.specs.declared.cause.IllCause.{IllCause}
 use Rattle.cr_base.specs.declared.cause.IllCause.TheVariants as cause
 use Rattle.cr_types.specs.declared.RecNo.{RecNo}
-use Rattle.cr_types.specs.Types.{CType, Rec, Table, type_at}
+use Rattle.cr_types.specs.Types.{CType, Table, type_at}
+use Rattle.cr_typing.specs.declared.fault.TypeFault.{TypeFault}
+use Rattle.cr_typing.specs.declared.fault.TypeFault.TheVariants as type_fault
 use Rattle.cr_typing.specs.declared.members.Placed.{Placed}
 use Rattle.cr_typing.specs.Members.{Members}
 use Rattle.cr_binding.specs.Source.{Source, name_at}
@@ -61,6 +63,14 @@ abbrev pub member_of : Table → MemberRow → Member
 member_of t x =
     record { holder = x.holder.0; own = x.own.0; place = x.place; token = x.token; type = type_at t x.ty }
 
+-- the cause of a selection that fails
+abbrev pub cause_of : TypeFault → IllCause
+cause_of type_fault.NoMember = cause.NoMember
+cause_of type_fault.NotRecord = cause.NotRecord
+cause_of type_fault.GenericType = cause.GenericType
+cause_of type_fault.Elision = cause.Elision
+cause_of _ = cause.Redeclared
+
 -- what is selected is a member, or refused for the same cause
 abbrev pub IsSelected : Table → Result Member IllCause → Result Selected IllCause → Type 0
 IsSelected t r (Ok x) = (m : Member) × (r ≡ Ok m) × (m.token ≡ x.token) × (m.type ≡ type_at t x.ty)
@@ -100,3 +110,7 @@ Refuses fault.OutOfMemory P = Unit {0}
 
 abbrev pub Always : Source → Type 0
 Always t = Unit {0}
+
+-- one more record
+abbrev pub recorded : RecordRow → State → State
+recorded r s = record s { records = s.records ++ record_of r ∷ [] }

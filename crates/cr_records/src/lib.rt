@@ -5,11 +5,11 @@ mod fault;
 mod records;
 mod rows;
 
+ghost use Rattle.cr_records.specs.Laws.{RecordsStay};
+
 pub use fault::RecordFault;
 pub use records::{Records, record_of};
 pub use rows::{Member, RecordRow, Selected, Selector};
-
-ghost use Rattle.cr_records.specs.Laws.{RecordsStay};
 
 /// As types are added the same records are seen. It does nothing: its contract is the law.
 pub fn records_stay()

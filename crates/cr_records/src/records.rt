@@ -2,16 +2,16 @@
 ghost use Rattle.std.specs.Prelude.{◌≡◌, ◌≢◌, ◌+◌, ◌<◌, ◌≤◌, ◌++◌, ◌∷◌, ℕ, [], None, Some, false, eqb, IfOk, IfErr, OnOk, OnErr, IfSome, length, map, option_map, slice_get, vec_len, vec_capacity};
 ghost use Rattle.std.specs.List.{list_any};
 ghost use Rattle.cr_base.specs.declared.cause.IllCause.TheVariants as cause;
-ghost use Rattle.cr_types.specs.Types.{Table, Rec, IsTypeNo, IsRecNo, Keeps, type_at};
+ghost use Rattle.cr_types.specs.Types.{Table, Arith, Rec, IsTypeNo, IsRecNo, Keeps, type_at};
 ghost use Rattle.cr_typing.specs.declared.fault.TypeFault.TheVariants as type_fault;
 ghost use Rattle.cr_typing.specs.Members.{AreOfTable, IsMemberNo, IsRefused, clash, added_names, next_member};
 ghost use Rattle.cr_binding.specs.Source.{Source, name_at};
 ghost use Rattle.cr_binding.specs.State.{State};
 ghost use Rattle.cr_binding.specs.Declaring.{failed};
 ghost use Rattle.cr_binding.specs.RecordMembers.{select, end_record};
-ghost use Rattle.cr_binding.specs.Tags.{record_of as number_of_record, with_record, new_type, completing};
-ghost use Rattle.cr_records.specs.Kept.{RecordTable, no_records, IsKept, IsOf, is_ended, Writes, selector_for};
-ghost use Rattle.cr_records.specs.Records.{with_records, members_by, member_of, AreSpelled, IsSelected, IsNamed, Always, Does, KeepsSpelling, Repeats, Refuses, adding, splicing};
+ghost use Rattle.cr_binding.specs.Tags.{record_of as number_of_record, is_record_kind, is_union_kind, with_record, new_type, completing};
+ghost use Rattle.cr_records.specs.Kept.{RecordTable, no_records, IsKept, IsOf, is_ended, Writes, selector_for, spelling};
+ghost use Rattle.cr_records.specs.Records.{with_records, members_by, member_of, AreSpelled, IsSelected, IsNamed, Always, Does, KeepsSpelling, Repeats, Refuses, adding, splicing, recorded, cause_of};
 
 use crate::fault::RecordFault;
 use crate::rows::{Member, RecordRow, Selected, Selector};
@@ -55,6 +55,19 @@ pub fn record_of(types: &Types, ty: TypeNo) -> Option<RecNo>
     }
 }
 
+// Whether a keyword announces a structure or union.
+fn is_record(keyword: Kind) -> bool
+    ensures { result ≡ is_record_kind keyword }
+{
+    matches!(keyword, Kind::Struct | Kind::Union)
+}
+
+fn is_union(keyword: Kind) -> bool
+    ensures { result ≡ is_union_kind keyword }
+{
+    matches!(keyword, Kind::Union)
+}
+
 // Why a member isn't added.
 fn refused(fault: TypeFault) -> RecordFault
     ensures { (i : ℕ) → result ≡ RecordFault.Redeclared i → fault ≡ type_fault.Redeclared i }
@@ -62,6 +75,28 @@ fn refused(fault: TypeFault) -> RecordFault
     match fault {
         TypeFault::Redeclared(token) => RecordFault::Redeclared(token),
         _ => RecordFault::OutOfMemory,
+    }
+}
+
+// Why nothing is selected.
+fn cause(fault: TypeFault) -> IllCause
+    ensures { result ≡ cause_of fault }
+{
+    match fault {
+        TypeFault::NoMember => IllCause::NoMember,
+        TypeFault::NotRecord => IllCause::NotRecord,
+        TypeFault::GenericType => IllCause::GenericType,
+        TypeFault::Elision => IllCause::Elision,
+        TypeFault::Redeclared(_) | TypeFault::OutOfMemory => IllCause::Redeclared,
+    }
+}
+
+fn spelling(name: Option<Name>) -> Name
+    ensures { result ≡ spelling name }
+{
+    match name {
+        Some(name) => name,
+        None => Name(0),
     }
 }
 
@@ -200,13 +235,7 @@ impl Records {
     }
 
     // The names of record q, which is an anonymous member of record r, select in r too.
-    fn bring_in(
-        &mut self,
-        types: &Types,
-        r: RecNo,
-        q: RecNo,
-        ty: TypeNo,
-    ) -> Result<(), RecordFault>
+    fn bring_in(&mut self, types: &Types, r: RecNo, q: RecNo, ty: TypeNo) -> Result<(), RecordFault>
         requires of { IsOf types.now self.old }
         requires rec_given { IsRecNo types.now r }
         requires ty_given { IsTypeNo types.now ty }
@@ -233,12 +262,7 @@ impl Records {
     /// the type is none of these, nothing is added.
     ///
     /// `Redeclared`: the record has a member of one of the names. Then nothing is added.
-    pub fn add_anonymous(
-        &mut self,
-        types: &Types,
-        r: RecNo,
-        ty: TypeNo,
-    ) -> Result<(), RecordFault>
+    pub fn add_anonymous(&mut self, types: &Types, r: RecNo, ty: TypeNo) -> Result<(), RecordFault>
         requires of { IsOf types.now self.old }
         requires rec_given { IsRecNo types.now r }
         requires ty_given { IsTypeNo types.now ty }
@@ -285,5 +309,119 @@ impl Records {
     {
         let _ = self.completed.insert(first)?;
         Ok(())
+    }
+
+    /// The type that a keyword announces where nothing named it before: a new structure or union, whose first token is
+    /// given, or an enumeration (C11 6.7.2.1, 6.7.2.2). Want of memory may leave a record that no type names.
+    pub fn announce(
+        &mut self,
+        types: &mut Types,
+        keyword: Kind,
+        token: u32,
+    ) -> Result<TypeNo, OutOfMemory>
+        requires of { IsOf types.old self.old }
+        ensures given { IfOk result (λ n. IsTypeNo types.new n) }
+        ensures meant { IfOk result (λ n. (s : State) → s.keyword ≡ keyword → type_at types.new n ≡ new_type (with_records types.old self.old s)) }
+        ensures ok { OnOk result ((s : State) → s.keyword ≡ keyword → with_records types.new self.new s ≡ with_record token (with_records types.old self.old s)) }
+        ensures spelled { KeepsSpelling Always self.old self.new }
+        ensures of { IsOf types.new self.new }
+        ensures keeps { Keeps types.old types.new }
+    {
+        if is_record(keyword) {
+            let n = self.new_record(types, token, is_union(keyword))?;
+            Ok(n)
+        } else {
+            let n = self.enumeration(types)?;
+            Ok(n)
+        }
+    }
+
+    fn enumeration(&self, types: &mut Types) -> Result<TypeNo, OutOfMemory>
+        requires of { IsOf types.old self.now }
+        ensures given { IfOk result (λ n. IsTypeNo types.new n) }
+        ensures meant { IfOk result (λ n. type_at types.new n ≡ Arith) }
+        ensures same { (s : State) → with_records types.new self.now s ≡ with_records types.old self.now s }
+        ensures of { IsOf types.new self.now }
+        ensures keeps { Keeps types.old types.new }
+    {
+        let _ = &self.records;
+        let n = types.make(Ty::Arith)?;
+        Ok(n)
+    }
+
+    // One more structure or union. In these types it is told by its first token.
+    fn new_record(
+        &mut self,
+        types: &mut Types,
+        token: u32,
+        is_union: bool,
+    ) -> Result<TypeNo, OutOfMemory>
+        requires of { IsOf types.old self.old }
+        ensures given { IfOk result (λ n. IsTypeNo types.new n) }
+        ensures meant { IfOk result (λ n. type_at types.new n ≡ Rec (length self.old.records)) }
+        ensures ok { OnOk result ((s : State) → with_records types.new self.new s ≡ recorded (record { token = token; is_union = is_union }) (with_records types.old self.old s)) }
+        ensures spelled { KeepsSpelling Always self.old self.new }
+        ensures of { IsOf types.new self.new }
+        ensures keeps { Keeps types.old types.new }
+    {
+        self.records.reserve(1)?;
+        let r = types.new_rec(RecordKey::Made(0, token), is_union)?;
+        push_record(&mut self.records, RecordRow { token, is_union });
+        let n = types.make(Ty::Rec(r))?;
+        Ok(n)
+    }
+
+    /// The member that `.name`, or by an arrow `->name`, selects of an expression of a type (C11 6.5.2.3).
+    ///
+    /// `GenericType`: the type, or by an arrow what it points to, is that of a generic selection with different results.
+    /// `NotRecord`: it is no structure and no union, or by an arrow no pointer. `NoMember`: it lacks the member or is
+    /// incomplete.
+    pub fn select(
+        &self,
+        types: &Types,
+        of: TypeNo,
+        arrow: bool,
+        name: Name,
+    ) -> Result<Selected, IllCause>
+        requires of { IsOf types.now self.now }
+        requires of_given { IsTypeNo types.now of }
+        ensures found { (source : Source) (s : State) → AreSpelled source self.now → IsSelected types.now (select source (with_records types.now self.now s) arrow name (type_at types.now of)) result }
+        ensures given { IfOk result (λ x. IsTypeNo types.now x.ty) }
+    {
+        match self.typing.select(types, of, arrow, name) {
+            Ok(m) => {
+                let member = self.typing.member(m);
+                Ok(Selected {
+                    token: member.token,
+                    ty: member.ty,
+                })
+            }
+            Err(fault) => Err(cause(fault)),
+        }
+    }
+
+    /// How many names select in records: those of anonymous records stand in each record that has them.
+    pub fn len(&self) -> usize
+        ensures { result ≡ length self.now.selectors }
+    {
+        self.selectors.len()
+    }
+
+    /// What name number `n` selects.
+    pub fn member(&self, n: usize) -> Member
+        requires { n < length self.now.selectors }
+        ensures member { (t : Table) → slice_get (members_by t self.now) n ≡ Some (member_of t result) }
+        ensures name { (source : Source) → AreSpelled source self.now → result.name ≡ name_at source result.token }
+    {
+        let selector = self.selectors[n];
+        let data = self.typing.member(selector.member);
+        Member {
+            holder: selector.holder,
+            own: data.rec,
+            place: self.typing.place(selector.member),
+            token: data.token,
+            ty: data.ty,
+            name: spelling(data.name),
+        }
     }
 }

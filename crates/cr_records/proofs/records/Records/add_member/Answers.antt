@@ -1,4 +1,4 @@
-use Rattle.std.proofs.Common.{◌≡◌, None, Some, [], ◌∷◌, ◌++◌, subst, sym, ap, ◌∙◌}
+use Rattle.std.proofs.Common.{[], ◌∷◌, ◌++◌, subst, sym, ap, ◌∙◌}
 use Rattle.cr_types.specs.Types.{type_at}
 use Rattle.cr_typing.specs.Members.{AreOfTable}
 use Rattle.cr_records.specs.Records.{IsNamed, Does, KeepsSpelling, Repeats, Refuses, adding}
@@ -9,11 +9,12 @@ pub put_member-requires-clause-held : goal.put_member-requires-clause-held
 put_member-requires-clause-held c = subst (λ z. AreOfTable c.args.types.now z.typing) (sym c.self.view_is) c.requires.of.held
 
 pub invariant_of-self-in-Ok : goal.invariant_of-self-in-Ok
-invariant_of-self-in-Ok c =
-    (named_keeps c.args.types.now _ c.args.r c.args.name c.args.ty c.args.token c.self.invariant.0 _ c.put_member.new.typing _ c.push_selector.new.selectors.items
-    (c.contains-whole.ensures ∙ c.self.invariant.1 c.args.r.0) c.in-Ok.ensures.number c.in-Ok.ensures.ok
-    (c.push_selector.ensures.items ∙ ap (λ l. l ++ (record { holder = c.args.r; member = c.in-Ok.member }) ∷ []) c.reserve.ensures.items),
-    c.self.invariant.1)
+invariant_of-self-in-Ok c = (
+  named_keeps c.args.types.now _ c.args.r c.args.name c.args.ty c.args.token c.self.invariant.0 _ c.put_member.new.typing _ c.push_selector.new.selectors.items
+      (c.contains-whole.ensures ∙ c.self.invariant.1 c.args.r.0) c.in-Ok.ensures.number c.in-Ok.ensures.ok
+      (c.push_selector.ensures.items ∙ ap (λ l. l ++ (record { holder = c.args.r; member = c.in-Ok.member }) ∷ []) c.reserve.ensures.items),
+  c.self.invariant.1,
+)
 
 pub returns-in-Ok-clause-ok : goal.returns-in-Ok-clause-ok
 returns-in-Ok-clause-ok c =

@@ -1,6 +1,6 @@
-use Rattle.std.proofs.Common.{◌≡◌, [], ◌∷◌, ◌++◌, map, subst, sym, ap, ◌∙◌}
+use Rattle.std.proofs.Common.{◌++◌, map, subst, sym, ◌∙◌}
 use Rattle.cr_types.specs.Types.{type_at}
-use Rattle.cr_typing.specs.Members.{AreOfTable, listed}
+use Rattle.cr_typing.specs.Members.{AreOfTable}
 use Rattle.cr_records.specs.Kept.{selector_for}
 use Rattle.cr_records.specs.Records.{Always, Does, KeepsSpelling, Repeats, Refuses, splicing}
 use Rattle.cr_records.proofs.Calls.{anonymous_refused, anonymous_keeps, anonymous_does, anonymous_keeps_spelling}
@@ -10,11 +10,12 @@ pub put_member-requires-clause-held : goal.put_member-requires-clause-held
 put_member-requires-clause-held c = subst (λ z. AreOfTable c.args.types.now z.typing) (sym c.self.view_is) c.requires.of.held
 
 pub invariant_of-self-in-Ok : goal.invariant_of-self-in-Ok
-invariant_of-self-in-Ok c =
-    (anonymous_keeps c.args.types.now _ c.args.r c.args.q c.args.ty c.requires.is c.self.invariant.0 _ c.put_member.new.typing c.in_ok-names.names.items c.push_selectors.new.selectors.items
-    (c.contains-whole.ensures ∙ c.self.invariant.1 c.args.r.0) c.in_ok-names.ensures.all c.in-Ok.ensures.ok
-    (c.push_selectors.ensures ∙ (λ j. c.reserve.ensures.items j ++ map (selector_for c.args.r) (c.deref.ensures.value j))),
-    c.self.invariant.1)
+invariant_of-self-in-Ok c = (
+  anonymous_keeps c.args.types.now _ c.args.r c.args.q c.args.ty c.requires.is c.self.invariant.0 _ c.put_member.new.typing c.in_ok-names.names.items c.push_selectors.new.selectors.items
+      (c.contains-whole.ensures ∙ c.self.invariant.1 c.args.r.0) c.in_ok-names.ensures.all c.in-Ok.ensures.ok
+      (c.push_selectors.ensures ∙ (λ j. c.reserve.ensures.items j ++ map (selector_for c.args.r) (c.deref.ensures.value j))),
+  c.self.invariant.1,
+)
 
 pub returns-in-Ok-clause-ok : goal.returns-in-Ok-clause-ok
 returns-in-Ok-clause-ok c =
