@@ -1,5 +1,5 @@
 -- The members of structures and unions (C11 6.7.2.1), and what selects them (6.5.2.3).
-use Rattle.std.specs.Prelude.{◌≡◌, ◌≢◌, ◌⊎◌, ℕ, ◌<◌, Bool, true, false, not, ◌==◌, nat_lt, if◌then◌else◌, Option, Some, None, unwrap_or, is_some, option_map, Result, Ok, Err, List, [], ◌∷◌, ◌++◌, length, filter, slice_get}
+use Rattle.std.specs.Prelude.{◌≡◌, ◌≢◌, ℕ, ◌<◌, Bool, true, false, not, ◌==◌, nat_lt, if◌then◌else◌, Option, Some, None, unwrap_or, is_some, option_map, Result, Ok, Err, List, [], ◌∷◌, ◌++◌, length, filter, slice_get}
 use Rattle.std.specs.Map.{lookup}
 use Rattle.cr_base.specs.declared.token.Name.{Name}
 use Rattle.cr_types.specs.declared.RecNo.{RecNo}
@@ -43,6 +43,10 @@ IsMemberNo m k = k.0 < length m.all
 
 abbrev pub data_at : Members → MemberNo → Option MemberData
 data_at m k = option_map (λ p. p.member) (slice_get m.all k.0)
+
+-- the number of a member among those that are declared in its record
+abbrev pub place_at : Members → MemberNo → Option ℕ
+place_at m k = option_map (λ p. p.place) (slice_get m.all k.0)
 
 -- the types and records of all members are the table's
 abbrev pub AreOfTable : Table → Members → Type 0
@@ -156,16 +160,3 @@ pub record Ends (old : Members) (r : RecNo) (new : Members) : Type 0 where
   pub all : new.all ≡ old.all
   pub this : listed new r.0 ≡ ended (listed old r.0)
   pub others : (q : ℕ) → q ≢ r.0 → listed new q ≡ listed old q
-
--- the list of a record ended, or it has no members
-abbrev pub IsWhole : Listed → Type 0
-IsWhole x = (x.ended ≡ true) ⊎ (x.declared ≡ [])
-
--- what has no name is a record, and whole
-abbrev pub MayBeAnonymous : Members → CType → Type 0
-MayBeAnonymous m (Rec r) = IsWhole (listed m r)
-MayBeAnonymous m _ = ⊥
-
-abbrev pub MayBeAdded : Members → CType → Option Name → Type 0
-MayBeAdded m c (Some name) = Unit {0}
-MayBeAdded m c None = MayBeAnonymous m c

@@ -14,5 +14,5 @@ mod typing;
 pub use expressions::Op;
 pub use fault::TypeFault;
 pub use initialisers::{Desig, InitList, ItemKind};
-pub use members::{MemberData, MemberNo};
+pub use members::{MemberData, MemberNo, Named};
 pub use typing::Typing;

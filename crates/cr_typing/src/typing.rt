@@ -2,7 +2,7 @@
 ghost use Rattle.std.specs.Prelude.{◌≡◌, ◌≢◌, ◌+◌, ◌<◌, ◌≤◌, ◌++◌, ◌∷◌, ℕ, [], None, Some, true, IfOk, IfErr, OnOk, OnErr, false, length, slice_get, vec_len, vec_capacity};
 ghost use Rattle.cr_types.specs.Types.{Table, IsTypeNo, IsRecNo, Keeps, type_at};
 ghost use Rattle.cr_typing.specs.ExpressionTypes.{decayed, binary_type, unary_type, is_binary, is_unary};
-ghost use Rattle.cr_typing.specs.Members.{no_members, listed_in, listed, IsMemberNo, data_at, AreOfTable, member_in, selected, selected_through, select, brought_in, redeclared, clash, RefusesNames, IsRefused, next_member, with_member, placed, Puts, Adds, ended, Ends, MayBeAdded};
+ghost use Rattle.cr_typing.specs.Members.{no_members, listed_in, listed, IsMemberNo, data_at, place_at, AreOfTable, member_in, selected, selected_through, select, brought_in, redeclared, clash, RefusesNames, IsRefused, next_member, with_member, placed, Puts, Adds, ended, Ends};
 ghost use Rattle.cr_typing.specs.declared.members.MemberNo.{MemberNo as TheMemberNo};
 ghost use Rattle.cr_typing.specs.Initialisers.{complete};
 ghost use Rattle.cr_typing.specs.Kept.{AreNew, AreNamedBelow, AreListed};
@@ -117,6 +117,14 @@ impl Typing {
         &self.all[m.0].member
     }
 
+    /// The number of a member among those that are declared in its record.
+    pub fn place(&self, m: MemberNo) -> usize
+        requires { IsMemberNo self.now m }
+        ensures { place_at self.now m ≡ Some result }
+    {
+        self.all[m.0].place
+    }
+
     // A member with its number in its record.
     pub(crate) fn placed(&self, m: MemberNo) -> &Placed
         requires { IsMemberNo self.now m }
@@ -193,8 +201,8 @@ impl Typing {
         }
     }
 
-    // What names select in a record, in order.
-    fn names_of(&self, r: RecNo) -> Result<Vec<(Name, Named)>, OutOfMemory>
+    /// What names select in a record, in order.
+    pub fn names_of(&self, r: RecNo) -> Result<Vec<(Name, Named)>, OutOfMemory>
         ensures all { IfOk result (λ names. names.items ≡ (listed self.now r.0).named) }
         ensures apart { AreNew [] (listed self.now r.0).named }
         ensures members { AreNamedBelow (length self.now.all) (listed self.now r.0).named }
@@ -247,9 +255,9 @@ impl Typing {
         Ok(no)
     }
 
-    /// Adds a member to a record whose list hasn't ended, at the token that declares it. One without a name is an
-    /// anonymous structure or union, whose own list has ended: its members are found by their names in the record too
-    /// (C11 6.7.2.1p13). Where a name is there already the member isn't added.
+    /// Adds a member to a record, at the token that declares it. One without a name is an anonymous structure or union:
+    /// its members are found by their names in the record too (C11 6.7.2.1p13). Where a name is there already the member
+    /// isn't added.
     ///
     /// As long as nothing is added to a record that is an anonymous member already, the names of a record are those of its
     /// members in order (`spliced`).
@@ -264,8 +272,6 @@ impl Typing {
         requires held { AreOfTable types.now self.old }
         requires rec_given { IsRecNo types.now r }
         requires ty_given { IsTypeNo types.now ty }
-        requires unended { (listed self.old r.0).ended ≡ false }
-        requires anonymous { MayBeAdded self.old (type_at types.now ty) name }
         ensures number { IfOk result (λ m. m ≡ next_member self.old) }
         ensures given { IfOk result (λ m. IsMemberNo self.new m) }
         ensures ok { OnOk result (Adds self.old (record { rec = r; name = name; ty = ty; token = token }) (type_at types.now ty) self.new) }

@@ -1,0 +1,9 @@
+mod Adding
+mod Announcing
+mod Calls
+mod Ending
+mod Growing
+mod Same
+mod Seen
+mod Selecting
+mod Writing
