@@ -10,7 +10,7 @@ use Rattle.cr_grammar.specs.declared.symbols.NonTerm.TheVariants as n
 use Rattle.cr_ll.specs.Derivation.{Trees, none, token, action, node}
 use Rattle.cr_types.specs.Types.{CType, Void, Arr, Rec}
 use Rattle.cr_typing.specs.ExpressionTypes.{same_type}
-use Rattle.cr_typing.specs.Initialisers.{Taken, Braces, opened, starts_from, reaching, indexed}
+use Rattle.cr_typing.specs.Initialisers.{Taken, Braces, first_in, opened, starts_from, reaching, indexed}
 use Rattle.cr_binding.specs.Source.{Source, name_at, is_string_literal}
 use Rattle.cr_binding.specs.State.{Declaration, Member, Selects, Target, Whole, Within, State}
 use Rattle.cr_binding.specs.Declaring.{failed, used}
@@ -147,5 +147,13 @@ abbrev pub object_of : State → Target → Option CType
 object_of s (Whole c) = Some c
 object_of s (Within b) = (taken s b).object
 
+-- the first member of a record that is complete where the list begins, the element of an array, or the one scalar
+abbrev pub first_place : State → Option CType → Option ℕ
+first_place s (Some (Rec r)) = first_in (length (complete s r))
+first_place s _ = Some 0
+
+abbrev pub list_for : State → Option CType → Braces
+list_for s c = opened c (first_place s c)
+
 abbrev pub list_opened : State → State
-list_opened s = record s { target = Within (opened (object_of s s.target)) }
+list_opened s = record s { target = Within (list_for s (object_of s s.target)) }

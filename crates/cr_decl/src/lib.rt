@@ -267,6 +267,25 @@ impl SpecState {
         }
     }
 
+    /// The same words.
+    pub fn copy(&self) -> SpecState
+        ensures { result ≡ self.now }
+    {
+        SpecState {
+            basic: self.basic,
+            basic_len: self.basic_len,
+            store: self.store,
+            store_len: self.store_len,
+        }
+    }
+
+    /// Whether this storage-class word is among the words so far (C11 6.7.1).
+    pub fn has(&self, w: SpecWord) -> bool
+        ensures { result ≡ list_any (same_word w) self.now.store }
+    {
+        self.store[..self.store_len].iter().any(|x| is_same(w, *x))
+    }
+
     /// Reads the next word. It is refused where no permitted list begins with the words so far and this one, in any
     /// order (C11 6.7.2p2, 6.7.1p2); the words so far stay then.
     pub fn word(&mut self, w: SpecWord) -> Result<(), BadSpecifiers>

@@ -21,11 +21,12 @@ pub enum Fact {
     MadeDenotes(Key, Place),
     /// The entity of the key has the new name.
     NewKey(Key),
-    /// A macro of the new name is defined or asked for at the place.
+    /// A live `#define` of the new name stands at the place.
     NewMacro(Place),
-    /// The place is a parameter's in a macro's body.
+    /// The token at the place is spelled as the old name, in the body of a live macro that has a parameter spelled as
+    /// the new one.
     BodyParam(Place),
-    /// The place cannot be edited alone.
+    /// A live pragma other than `once`, or the brackets of an attribute, have the old or the new name at the place.
     OpaqueAt(Place),
     /// Renaming the entity of the key changes what is at the place.
     Conflict(Key, Place),

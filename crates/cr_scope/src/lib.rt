@@ -28,7 +28,7 @@ pub struct DeclNo(usize);
 pub struct ScopeNo(usize);
 
 /// A name space (C11 6.2.3). Members have one for each record and are no matter of scopes.
-#[derive(Clone, Copy, Debug, PartialEq, Eq)]
+#[derive(Clone, Copy, Debug, PartialEq, Eq, Hash)]
 pub enum Space {
     Label,
     Tag,

@@ -2,6 +2,7 @@
 -- aren't parted from those that follow: what stands there is unknown until a designator tells it.
 use Rattle.std.specs.Prelude.{ℕ, ◌+◌, Bool, true, false, not, ◌==◌, nat_lt, is_some, unwrap_or, if◌then◌else◌, Option, Some, None, option_map, option_and_then, IfSome, Result, Ok, Err, List, [], length, slice_get}
 use Rattle.cr_base.specs.declared.token.Name.{Name}
+use Rattle.cr_types.specs.declared.TypeNo.{TypeNo}
 use Rattle.cr_types.specs.Types.{CType, Arr, Rec, Table, IsTypeNo, type_at, union_at}
 use Rattle.cr_typing.specs.declared.fault.TypeFault.{TypeFault}
 use Rattle.cr_typing.specs.declared.fault.TypeFault.TheVariants as fault
@@ -33,8 +34,11 @@ pub record Braces : Type 0 where
 abbrev pub taken_of : Table → Reached → Taken
 taken_of t x = record { object = option_map (type_at t) x.object; after = x.after }
 
+abbrev pub object_of : Table → Option TypeNo → Option CType
+object_of t = option_map (type_at t)
+
 abbrev pub braces_of : Table → InitList → Braces
-braces_of t x = record { object = option_map (type_at t) x.object; place = x.place; reached = option_map (taken_of t) x.reached }
+braces_of t x = record { object = object_of t x.object; place = x.place; reached = option_map (taken_of t) x.reached }
 
 -- its types are the table's
 abbrev pub AreHeld : Table → InitList → Type 0
@@ -47,14 +51,23 @@ IsKindOf t _ = Unit {0}
 
 -- ---- where a list begins
 
-abbrev pub opened : Option CType → Braces
-opened c = record { object = c; place = Some 0; reached = None }
-
--- ---- the object at a place, and the place after it
-
 -- the members of a record that is complete
 abbrev pub complete : Listed → List MemberNo
 complete x = if x.ended then x.declared else []
+
+-- the first of so many places, where there is one
+abbrev pub first_in : ℕ → Option ℕ
+first_in count = if nat_lt 0 count then Some 0 else None
+
+-- The first member of a record that is complete where the list begins (6.7.9p17), the element of an array, or the scalar.
+abbrev pub first_place : Members → Option CType → Option ℕ
+first_place m (Some (Rec r)) = first_in (length (complete (listed m r)))
+first_place m _ = Some 0
+
+abbrev pub opened : Option CType → Option ℕ → Braces
+opened c first = record { object = c; place = first; reached = None }
+
+-- ---- the object at a place, and the place after it
 
 abbrev pub type_of_member : Table → Members → MemberNo → Option CType
 type_of_member t m k = option_map (λ p. type_at t p.member.ty) (slice_get m.all k.0)

@@ -2,7 +2,7 @@
 ghost use Rattle.std.specs.Prelude.{◌≡◌, Some, IfSome, IfOk, OnOk, OnErr, IsOk, option_map, option_and_then, slice_get};
 ghost use Rattle.cr_types.specs.Types.{Table, Rec, IsTypeNo, IsRecNo, type_at};
 ghost use Rattle.cr_typing.specs.Members.{AreOfTable, IsMemberNo, listed};
-ghost use Rattle.cr_typing.specs.Initialisers.{taken_of, braces_of, AreHeld, IsKindOf, opened, complete, type_of_member, part_at, next_in, next_place, starts_from, reaching, element_of, after_index, indexed, dotted, after_member, designation, designated, taken, is_short, with_item};
+ghost use Rattle.cr_typing.specs.Initialisers.{object_of, taken_of, braces_of, AreHeld, IsKindOf, first_in, first_place, opened, complete, type_of_member, part_at, next_in, next_place, starts_from, reaching, element_of, after_index, indexed, dotted, after_member, designation, designated, taken, is_short, with_item};
 
 use crate::fault::TypeFault;
 use crate::members::{MemberNo, Placed};
@@ -55,6 +55,34 @@ fn declared_type(types: &Types, typing: &Typing, r: RecNo, place: usize) -> Opti
     match typing.complete(r).get(place) {
         Some(m) => Some(typing.member(*m).ty),
         None => None,
+    }
+}
+
+// The first of so many places.
+fn first_in(count: usize) -> Option<usize>
+    ensures { result ≡ first_in count }
+{
+    if count > 0 { Some(0) } else { None }
+}
+
+// The place of the first item of a list for an object.
+fn first_place(types: &Types, typing: &Typing, of: Option<TypeNo>) -> Option<usize>
+    requires object_given { IfSome of (IsTypeNo types.now) }
+    ensures meant { result ≡ first_place typing.now (object_of types.now of) }
+{
+    match of {
+        Some(object) => first_of(types, typing, object),
+        None => Some(0),
+    }
+}
+
+fn first_of(types: &Types, typing: &Typing, object: TypeNo) -> Option<usize>
+    requires object_given { IsTypeNo types.now object }
+    ensures meant { result ≡ first_place typing.now (Some (type_at types.now object)) }
+{
+    match types.get(object) {
+        Ty::Rec(r) => first_in(typing.complete(r).len()),
+        _ => Some(0),
     }
 }
 
@@ -189,16 +217,29 @@ fn is_short(types: &Types, kind: ItemKind, object: Option<TypeNo>) -> bool
 
 impl InitList {
     /// A list for an object of a type, or of an unknown one. Its first item stands at the first member of a record, at the
-    /// element of an array, or at a scalar.
-    pub fn new(_alloc: Global, of: Option<TypeNo>) -> InitList
-        ensures object { result.object ≡ of }
-        ensures opened { (t : Table) → braces_of t result ≡ opened (option_map (type_at t) of) }
-        ensures held { (t : Table) → IfSome of (IsTypeNo t) → AreHeld t result }
+    /// element of an array, or at a scalar; of a record that is incomplete where the list begins, or has no member, it is
+    /// unknown where that is.
+    pub fn new(types: &Types, typing: &Typing, of: Option<TypeNo>) -> InitList
+        requires members_held { AreOfTable types.now typing.now }
+        requires object_given { IfSome of (IsTypeNo types.now) }
+        ensures opened { braces_of types.now result ≡ opened (object_of types.now of) (first_place typing.now (object_of types.now of)) }
+        ensures held { AreHeld types.now result }
     {
         InitList {
             object: of,
-            place: Some(0),
+            place: first_place(types, typing, of),
             reached: None,
+        }
+    }
+
+    /// An equal list, so that a list can be put back after one inside it.
+    pub fn copy(&self) -> InitList
+        ensures { result ≡ self.now }
+    {
+        InitList {
+            object: self.object,
+            place: self.place,
+            reached: self.reached,
         }
     }
 

@@ -103,7 +103,7 @@ fn an_index_reaches_an_element(rt: HostRuntime) -> Result<(), Fail> {
     let typing = Typing::new(rt.alloc());
     let int = types.make(Ty::Arith)?;
     let array = types.make(Ty::Arr(int))?;
-    let mut list = InitList::new(rt.alloc(), Some(array));
+    let mut list = InitList::new(&types, &typing, Some(array));
     assert_eq!(rt; list.designate(&types, &typing, Desig::Index)?, None);
     let value = ItemKind::Value(int);
     assert_eq!(rt; list.item(&types, &typing, value)?, Some(int));
@@ -119,7 +119,7 @@ fn a_string_fills_an_array(rt: HostRuntime) -> Result<(), Fail> {
     let char = types.make(Ty::Arith)?;
     let array = types.make(Ty::Arr(char))?;
     let arrays = types.make(Ty::Arr(array))?;
-    let mut list = InitList::new(rt.alloc(), Some(arrays));
+    let mut list = InitList::new(&types, &typing, Some(arrays));
     let string = list.item(&types, &typing, ItemKind::StringValue)?;
     assert_eq!(rt; string, Some(array));
     let value = ItemKind::Value(char);
@@ -138,11 +138,28 @@ fn behind_elided_braces_no_member_is_designated(rt: HostRuntime) -> Result<(), F
     typing.add_member(&p.types, p.outer, Some(B), p.inner_ty, 2)?;
     typing.add_member(&p.types, p.outer, Some(C), p.int, 3)?;
     typing.finish(p.outer);
-    let mut list = InitList::new(rt.alloc(), Some(p.outer_ty));
+    let mut list = InitList::new(&p.types, &typing, Some(p.outer_ty));
     list.item(&p.types, &typing, ItemKind::Value(p.int))?;
     let object = list.item(&p.types, &typing, ItemKind::Braces)?;
-    let mut inner = InitList::new(rt.alloc(), object);
+    let mut inner = InitList::new(&p.types, &typing, object);
     let elided = inner.designate(&p.types, &typing, Desig::Dot(A));
     assert_eq!(rt; elided, Err(TypeFault::Elision));
+    Ok(())
+}
+
+// struct s v = { sizeof(struct s { int b; struct { int a; } c; }), { .a = 1 } };
+#[test]
+fn a_list_for_a_record_that_ends_within_it_has_no_first_member(rt: HostRuntime) -> Result<(), Fail> {
+    let p = two_records(rt.alloc())?;
+    let mut typing = Typing::new(rt.alloc());
+    let mut list = InitList::new(&p.types, &typing, Some(p.outer_ty));
+    typing.add_member(&p.types, p.inner, Some(A), p.int, 1)?;
+    typing.finish(p.inner);
+    typing.add_member(&p.types, p.outer, Some(B), p.int, 2)?;
+    typing.add_member(&p.types, p.outer, Some(C), p.inner_ty, 3)?;
+    typing.finish(p.outer);
+    let value = list.item(&p.types, &typing, ItemKind::Value(p.int))?;
+    assert_eq!(rt; value, None);
+    assert_eq!(rt; list.item(&p.types, &typing, ItemKind::Braces)?, None);
     Ok(())
 }
