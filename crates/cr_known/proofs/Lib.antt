@@ -1,0 +1,4 @@
+pub mod Acting
+pub mod Cutting
+pub mod Ending
+pub mod Walking
