@@ -1,6 +1,6 @@
 -- An action does what the shape of the node that ended last says.
 use Rattle.std.proofs.Common.{◌≡◌, ℕ, ◌+◌, Bool, true, false, Option, Some, None, List, [], ◌∷◌, ◌++◌, Ok, Err, Result, refl, sym, ap, ◌∙◌}
-use Rattle.std.specs.Prelude.{if◌then◌else◌, ◌&&◌, not, eqb, map, is_some, unwrap_or, drop}
+use Rattle.std.specs.Prelude.{if◌then◌else◌, ◌&&◌, not, eqb, map, is_some, drop}
 use Rattle.std.specs.List.{list_any}
 use Rattle.cr_base.specs.declared.Kind.{Kind}
 use Rattle.cr_base.specs.declared.Kind.TheVariants as kind
@@ -9,7 +9,7 @@ use Rattle.cr_grammar.specs.declared.symbols.NonTerm.{NonTerm}
 use Rattle.cr_grammar.specs.declared.symbols.NonTerm.TheVariants as n
 use Rattle.cr_grammar.specs.declared.symbols.Action.{Action}
 use Rattle.cr_grammar.specs.declared.symbols.Action.TheVariants as a
-use Rattle.cr_ll.specs.Derivation.{Trees, none}
+use Rattle.cr_ll.specs.Derivation.{Trees}
 use Rattle.cr_types.specs.Types.{CType, Arith, Void}
 use Rattle.cr_typing.specs.ExpressionTypes.{decayed}
 use Rattle.cr_scope.specs.declared.Space.{Space}
@@ -21,15 +21,15 @@ use Rattle.cr_decl.specs.declared.SpecWord.{SpecWord}
 use Rattle.cr_decl.specs.declared.SpecWord.TheVariants as w
 use Rattle.cr_binding.specs.Source.{Source, is_identifier, text_at, name_at, is_built_in}
 use Rattle.cr_binding.specs.State.{Declaration, Member, IsParameter, Target, Whole, Within, State}
-use Rattle.cr_binding.specs.Entities.{entry, is_typedef, token_or}
-use Rattle.cr_binding.specs.Declaring.{declare, declaration, used, declare_as, declare_named, declare_plain, declare_parameter, meaning_here, declaration_at, linkage_for, linkage_seen, looked_up, has_word, is_internal, kind_of}
-use Rattle.cr_binding.specs.Specifying.{type_specifier, named_type, typedef_name, specified_by, atomic_type, specifier_at, declared_type, specified_type}
-use Rattle.cr_binding.specs.Tags.{record_of, tag_alone, tag_again, tag_here, declare_tag, with_record, new_type, is_record_kind, tag_definition, filling, completing, untagged, tag_use, used_tag}
-use Rattle.cr_binding.specs.RecordMembers.{write, write_unless, least_token, repeated, add_member, named_member, splice, add_anonymous, brought_in, end_record, select}
-use Rattle.cr_binding.specs.Expressions.{identifier, denoting, is_value, is_function_name, selection, selecting, operand, is_arrow}
-use Rattle.cr_binding.specs.Initialising.{initialiser, index_designator, index_within, designator, designating, dotted, value_item, is_string, leaves, item_within, StringValue, Value}
+use Rattle.cr_binding.specs.Entities.{entry, token_or}
+use Rattle.cr_binding.specs.Declaring.{declare, declaration, used, declare_as, declare_named, declare_parameter, meaning_here, declaration_at, linkage_for, linkage_seen, looked_up, has_word, is_internal, kind_of}
+use Rattle.cr_binding.specs.Specifying.{type_specifier, named_type, specified_by, atomic_type, specifier_at, declared_type, specified_type}
+use Rattle.cr_binding.specs.Tags.{record_of, tag_again, tag_here, declare_tag, with_record, new_type, is_record_kind, tag_definition, filling, completing, untagged, used_tag}
+use Rattle.cr_binding.specs.RecordMembers.{write_unless, least_token, repeated, add_member, named_member, add_anonymous, brought_in, end_record, select}
+use Rattle.cr_binding.specs.Expressions.{identifier, denoting, is_value, is_function_name, selecting, operand, is_arrow}
+use Rattle.cr_binding.specs.Initialising.{initialiser, designator, designating, dotted, is_string, leaves, item_within, StringValue, Value}
 use Rattle.cr_typing.specs.Initialisers.{Braces, starts_from}
-use Rattle.cr_binding.specs.Scoping.{next_scope, or_next, entered_in, body_within, body_ended, all_jumps, jump_to, unless_failed, left}
+use Rattle.cr_binding.specs.Scoping.{next_scope, or_next, entered_in, body_within, all_jumps, jump_to, unless_failed, left}
 use Rattle.cr_binding.specs.Actions.{acted}
 use Rattle.cr_known.specs.Shapes.{shape_of, leaves_of, is_one_string}
 use Rattle.cr_known.specs.Known.{acted_by}

@@ -1,17 +1,16 @@
 -- Where steps stop, trees that are cut off there have the fault that is kept.
-use Rattle.std.proofs.Common.{◌≡◌, ℕ, Bool, true, false, Option, Some, None, List, [], ◌∷◌, ◌++◌, refl, sym, ap, subst, ◌∙◌}
+use Rattle.std.proofs.Common.{◌≡◌, Bool, true, false, List, [], ◌∷◌, ◌++◌, refl, sym, ap, subst, ◌∙◌}
 use Rattle.std.specs.Prelude.{if◌then◌else◌, not}
 use Rattle.cr_grammar.specs.declared.symbols.NonTerm.{NonTerm}
 use Rattle.cr_grammar.specs.declared.symbols.NonTerm.TheVariants as n
 use Rattle.cr_ll.specs.Derivation.{Trees}
-use Rattle.cr_types.specs.Types.{CType}
 use Rattle.cr_decl.specs.Specifiers.{is_permitted}
 use Rattle.cr_binding.specs.Source.{Source}
 use Rattle.cr_binding.specs.State.{State}
 use Rattle.cr_binding.specs.Specifying.{words_ended}
 use Rattle.cr_binding.specs.Binding.{bound}
 use Rattle.cr_binding.specs.Steps.{Step, Opens, Passes, Acts, Closes, steps}
-use Rattle.cr_known.specs.Known.{Saved, Nothing, Gathering, Filling, Aiming, put_back, ended_alone, ended_by, Frame, Known, known_first, known_close_on, known_step, all_known}
+use Rattle.cr_known.specs.Known.{Saved, Nothing, Gathering, Filling, Aiming, put_back, ended_alone, Frame, Known, known_first, known_close_on, known_step, all_known}
 use Rattle.cr_known.specs.Laws.{AreSoundSteps, AllClose}
 use Rattle.cr_known.proofs.Walking.{known_append, sound_steps_bind}
 

@@ -5,7 +5,6 @@ use Rattle.cr_grammar.specs.declared.symbols.NonTerm.TheVariants as n
 use Rattle.cr_ll.specs.Derivation.{Trees, none, token, action, node}
 use Rattle.cr_decl.specs.Specifiers.{is_permitted}
 use Rattle.cr_binding.specs.State.{State}
-use Rattle.cr_binding.specs.Specifying.{words_ended}
 use Rattle.cr_binding.specs.Binding.{ended, is_empty}
 use Rattle.cr_known.specs.Known.{unclosed, saved_for, ended_by}
 

@@ -8,7 +8,6 @@ use Rattle.cr_grammar.specs.declared.symbols.NonTerm.TheVariants as n
 use Rattle.cr_grammar.specs.declared.symbols.Action.{Action}
 use Rattle.cr_grammar.specs.declared.symbols.Action.TheVariants as a
 use Rattle.cr_ll.specs.Derivation.{Item, Passed, Due, Asked, Trees, none, token, action, node}
-use Rattle.cr_types.specs.declared.Part.{Part}
 use Rattle.cr_types.specs.declared.Part.TheVariants as part
 use Rattle.cr_decl.specs.declared.SpecWord.{SpecWord}
 use Rattle.cr_decl.specs.declared.SpecWord.TheVariants as w
@@ -24,7 +23,7 @@ use Rattle.cr_binding.specs.Actions.{passed, acted}
 use Rattle.cr_binding.specs.Binding.{asked, goes_on, unless_refused, ended, is_empty, walk, bound}
 use Rattle.cr_binding.specs.Steps.{Step, Opens, Passes, Acts, Closes, steps}
 use Rattle.cr_known.specs.Shapes.{Leaves, NoToken, OneToken, Tokens, Shape, leaves_of, behind, no_shape, shape_of}
-use Rattle.cr_known.specs.Known.{unclosed, acted_by, saved_for, ended_by, Frame, Known, known_first, with_token, with_action, with_node, known_asks, known_step, all_known, known_close_on}
+use Rattle.cr_known.specs.Known.{unclosed, acted_by, saved_for, Frame, Known, known_first, with_token, with_action, with_node, known_step, all_known}
 use Rattle.cr_known.specs.Laws.{AreSound, AreSoundSteps}
 use Rattle.cr_known.proofs.Acting.{un, by_bool, acts_by_shapes, one_string}
 use Rattle.cr_known.proofs.Ending.{ends_by_saved}

@@ -1,11 +1,10 @@
 -- The binding of a unit as it is kept: without trees, and of each open node only what its end puts back.
-use Rattle.std.specs.Prelude.{◌≡◌, ℕ, Bool, true, false, if◌then◌else◌, Option, Some, None, unwrap_or, List, [], ◌∷◌, ◌++◌, drop, length}
-use Rattle.cr_base.specs.declared.Kind.{Kind}
+use Rattle.std.specs.Prelude.{ℕ, Bool, true, false, if◌then◌else◌, Option, Some, None, unwrap_or, List, [], ◌∷◌, ◌++◌, drop}
 use Rattle.cr_grammar.specs.declared.symbols.NonTerm.{NonTerm}
 use Rattle.cr_grammar.specs.declared.symbols.NonTerm.TheVariants as n
 use Rattle.cr_grammar.specs.declared.symbols.Action.{Action}
 use Rattle.cr_grammar.specs.declared.symbols.Action.TheVariants as a
-use Rattle.cr_ll.specs.Derivation.{Item, Asked, Trees, none, token, action, node}
+use Rattle.cr_ll.specs.Derivation.{Item, Asked, none}
 use Rattle.cr_types.specs.Types.{CType, derived_by}
 use Rattle.cr_types.specs.declared.Part.TheVariants as part
 use Rattle.cr_typing.specs.declared.expressions.Op.TheVariants as op
@@ -17,11 +16,10 @@ use Rattle.cr_binding.specs.Specifying.{is_declarator, specified_type, words_end
 use Rattle.cr_binding.specs.RecordMembers.{add_member}
 use Rattle.cr_binding.specs.Expressions.{push, operand, on_two}
 use Rattle.cr_binding.specs.Initialising.{Item as Initialised, InBraces, Value, StringValue, item_within}
-use Rattle.cr_binding.specs.Scoping.{unless_failed}
 use Rattle.cr_binding.specs.Actions.{passed, acted}
 use Rattle.cr_binding.specs.Binding.{leaves_values, asked, goes_on}
 use Rattle.cr_binding.specs.Steps.{Step, Opens, Passes, Acts, Closes}
-use Rattle.cr_known.specs.Shapes.{Shape, Leaves, OneToken, behind, is_one_string, no_shape}
+use Rattle.cr_known.specs.Shapes.{Shape, OneToken, behind, is_one_string, no_shape}
 
 -- ---- what an action does, by the shape of the node that ended last
 

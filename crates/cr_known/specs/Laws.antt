@@ -1,8 +1,8 @@
 -- What is kept is what is bound.
-use Rattle.std.specs.Prelude.{◌≡◌, ℕ, Bool, true, false, Option, Some, None, unwrap_or, List, [], ◌∷◌, ◌++◌}
+use Rattle.std.specs.Prelude.{◌≡◌, ℕ, Option, Some, None, unwrap_or, List, [], ◌∷◌, ◌++◌}
 use Rattle.cr_grammar.specs.declared.symbols.NonTerm.{NonTerm}
 use Rattle.cr_grammar.specs.declared.symbols.Action.{Action}
-use Rattle.cr_ll.specs.Derivation.{Item, Asked, Trees, none, token, action, node}
+use Rattle.cr_ll.specs.Derivation.{Trees, none, token, action, node}
 use Rattle.cr_binding.specs.Source.{Source}
 use Rattle.cr_binding.specs.State.{State}
 use Rattle.cr_binding.specs.Actions.{acted}

@@ -1,7 +1,13 @@
 //! What a program keeps of the open nodes of a unit while it binds it, and that this is the binding.
 #![tactic(auto)]
 
+ghost use Rattle.cr_known.specs.Nested.{NestsGoAlong};
 ghost use Rattle.cr_known.specs.Laws.{ActsByShapes, EndsBySaved, KnownIsBound, SoundStepsBind, FaultsAreOfCutTrees};
+
+mod nest;
+mod parts;
+
+pub use nest::{Leaves, Nest};
 
 /// Of the trees of a node that ended its shape is enough. It does nothing: its contract is the law.
 pub fn actions_go_by_shapes()
@@ -27,4 +33,9 @@ pub fn sound_steps_bind()
 /// Where steps stop, trees that are cut off there have the fault that is kept. It does nothing: its contract is the law.
 pub fn faults_are_of_cut_trees()
     ensures { FaultsAreOfCutTrees }
+{}
+
+/// The calls of `Nest` do to nodes and shapes what they do to all that is kept. It does nothing: its contract is the law.
+pub fn nests_go_along()
+    ensures { NestsGoAlong }
 {}
