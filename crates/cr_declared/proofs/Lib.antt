@@ -1,0 +1,9 @@
+pub mod Clashing
+pub mod Entering
+pub mod Declaring
+pub mod First
+pub mod Here
+pub mod Looked
+pub mod Nearest
+pub mod Placing
+pub mod Tables
