@@ -24,7 +24,7 @@ filled_same name raw full full2 h (Stays t) left = refl
 filled_same name raw full full2 h (Spelt hash i) left = refl
 filled_same name raw full full2 h (Bare t i) left = refl
 filled_same name raw full full2 h (Full t i) left = ap (λ a. Gave (parts_of (with_space t.space a)) left []) (h i)
-filled_same name raw full full2 h (CommaRest comma t i) left = ap (λ a. Gave (or_placemarker (comma_and comma (with_space t.space a) (arg_at raw i))) left []) (h i)
+filled_same name raw full full2 h (CommaRest comma t i) left = ap (λ a. Gave (comma_and comma (or_placemarker (with_space t.space a)) (arg_at raw i)) left []) (h i)
 filled_same name raw full full2 h Paste left = refl
 
 all_filled_same : (name : Token) (raw full full2 : Args) → SameAt full full2 → (its : List Item) (left : ℕ) → all_filled name raw full its left ≡ all_filled name raw full2 its left

@@ -45,9 +45,9 @@ placemarker_text names sets (h ∷ hs) = ap (λ ps. spec.Is (held names sets h) 
 unhidden_text : (names : List Text) (sets : Sets) (t : PpTok) → set_at sets 0 ≡ [] → held names sets (unhidden t) ≡ token_of names [] t
 unhidden_text names sets t e = ap (λ s. token_of names (map (text_of names) s) t) e
 
-comma_text : (names : List Text) (sets : Sets) (comma : PpTok) (full raw : List Held) → set_at sets 0 ≡ [] → all_held names sets (comma_and_here (unhidden comma) full raw) ≡ spec.comma_and (token_of names [] comma) (all_held names sets full) (all_held names sets raw)
-comma_text names sets comma full [] e = refl
-comma_text names sets comma full (a ∷ raw) e = ap (λ t. t ∷ all_held names sets full) (unhidden_text names sets comma e)
+comma_text : (names : List Text) (sets : Sets) (comma : PpTok) (rest : List Part) (raw : List Held) → set_at sets 0 ≡ [] → part_texts names sets (comma_and_here (unhidden comma) rest raw) ≡ spec.comma_and (token_of names [] comma) (part_texts names sets rest) (all_held names sets raw)
+comma_text names sets comma rest [] e = refl
+comma_text names sets comma rest (a ∷ raw) e = ap (λ t. spec.Is t ∷ part_texts names sets rest) (unhidden_text names sets comma e)
 
 spaced_arg : (names : List Text) (sets : Sets) (space : Bool) (args : List (List Held)) (i : ℕ) → all_held names sets (spaced space (arg_here args i)) ≡ spec.with_space space (spec.arg_at (all_args names sets args) i)
 spaced_arg names sets space args i = spaced_text names sets space (arg_here args i) ∙ ap (spec.with_space space) (sym (arg_text names sets args i))
@@ -72,10 +72,9 @@ fill_does w s0 s1 names new sets name raw full made (item.Full t i) e h =
     ∙ parts_text names sets (spaced t.space (arg_here full i)) ∙ ap spec.parts_of (spaced_arg names sets t.space full i)) h.1
 fill_does w s0 s1 names new sets name raw full made (item.CommaRest comma t i) e h =
     given w s0 s1 _ _ (ap (λ n. part_texts n sets (filled_here raw full made (item.CommaRest comma t i))) h.0
-    ∙ placemarker_text names sets (comma_and_here (unhidden comma) (spaced t.space (arg_here full i)) (arg_here raw i))
-    ∙ ap spec.or_placemarker (comma_text names sets comma (spaced t.space (arg_here full i)) (arg_here raw i) e
-    ∙ ap (λ x. spec.comma_and (token_of names [] comma) x (all_held names sets (arg_here raw i))) (spaced_arg names sets t.space full i)
-    ∙ ap (spec.comma_and (token_of names [] comma) (spec.with_space t.space (spec.arg_at (all_args names sets full) i))) (sym (arg_text names sets raw i)))) h.1
+    ∙ comma_text names sets comma (or_placemarker_here (spaced t.space (arg_here full i))) (arg_here raw i) e
+    ∙ ap (λ x. spec.comma_and (token_of names [] comma) x (all_held names sets (arg_here raw i))) (placemarker_text names sets (spaced t.space (arg_here full i)) ∙ ap spec.or_placemarker (spaced_arg names sets t.space full i))
+    ∙ ap (spec.comma_and (token_of names [] comma) (spec.or_placemarker (spec.with_space t.space (spec.arg_at (all_args names sets full) i)))) (sym (arg_text names sets raw i))) h.1
 fill_does w s0 s1 names new sets name raw full made item.Paste e h = given w s0 s1 _ _ refl h.1
 
 arg_known : (names : List Text) (sets : Sets) (args : List (List Held)) (i : ℕ) → All (AreKnown names sets) args → AreKnown names sets (arg_here args i)
@@ -95,9 +94,10 @@ placemarker_known : (names : List Text) (sets : Sets) (hs : List Held) → AreKn
 placemarker_known names sets [] h = All-cons (IsPartKnown names sets) part.Placemarker [] tt (All-nil (IsPartKnown names sets))
 placemarker_known names sets (x ∷ hs) h = parts_known names sets (x ∷ hs) h
 
-comma_known : (names : List Text) (sets : Sets) (comma : PpTok) (full raw : List Held) → IsTokenNamed names comma → 0 < length sets → AreKnown names sets full → AreKnown names sets (comma_and_here (unhidden comma) full raw)
-comma_known names sets comma full [] h k a = All-nil (IsKnown names sets)
-comma_known names sets comma full (x ∷ raw) h k a = All-cons (IsKnown names sets) (unhidden comma) full (h, k) a
+comma_known : (names : List Text) (sets : Sets) (comma : PpTok) (rest : List Part) (raw : List Held) → IsTokenNamed names comma → 0 < length sets → All (IsPartKnown names sets) rest
+    → All (IsPartKnown names sets) (comma_and_here (unhidden comma) rest raw)
+comma_known names sets comma rest [] h k a = All-cons (IsPartKnown names sets) part.Placemarker [] tt (All-nil (IsPartKnown names sets))
+comma_known names sets comma rest (x ∷ raw) h k a = All-cons (IsPartKnown names sets) (part.Is (unhidden comma)) rest (h, k) a
 
 -- what was put is known
 pub fill_known : (w : Watch) (s0 s1 : List Seen) (names new : List Text) (sets : Sets) (name : Token) (raw full : List (List Held)) (made : Held) (i : Item) → 0 < length sets → IsItemNamed names i
@@ -111,7 +111,7 @@ fill_known w s0 s1 names new sets name raw full made (item.Full t i) k n a b h =
     subst (λ x. All (IsPartKnown x sets) (filled_here raw full made (item.Full t i))) (sym h.0) (parts_known names sets _ (spaced_known names sets t.space _ (arg_known names sets full i b)))
 fill_known w s0 s1 names new sets name raw full made (item.CommaRest comma t i) k n a b h =
     subst (λ x. All (IsPartKnown x sets) (filled_here raw full made (item.CommaRest comma t i))) (sym h.0)
-    (placemarker_known names sets _ (comma_known names sets comma _ (arg_here raw i) n.0 k (spaced_known names sets t.space _ (arg_known names sets full i b))))
+    (comma_known names sets comma _ (arg_here raw i) n.0 k (placemarker_known names sets _ (spaced_known names sets t.space _ (arg_known names sets full i b))))
 fill_known w s0 s1 names new sets name raw full made item.Paste k n a b h = All-cons (IsPartKnown new sets) part.Joins [] tt (All-nil (IsPartKnown new sets))
 
 pub string_made : (w : Watch) (s0 s1 : List Seen) (names new : List Text) (sets : Sets) (name : Token) (raw : List (List Held)) (made : Held) (i : Item) (hash : PpTok) (n : ℕ) (arg : List Held) → i ≡ item.Spelt hash n → arg ≡ arg_here raw n

@@ -22,12 +22,16 @@ no_joins_either : (hs : List Held) → joins (or_placemarker_here hs) ≡ 0
 no_joins_either [] = refl
 no_joins_either (h ∷ hs) = no_joins hs
 
+no_joins_comma : (c : Held) (rest : List Part) (raw : List Held) → joins rest ≡ 0 → joins (comma_and_here c rest raw) ≡ 0
+no_joins_comma c rest [] h = refl
+no_joins_comma c rest (a ∷ raw) h = h
+
 pub one_join : (raw full : List (List Held)) (made : Held) (i : Item) → joins (filled_here raw full made i) ≤ 1
 one_join raw full made (item.Stays t) = omega arith
 one_join raw full made (item.Spelt t n) = omega arith
 one_join raw full made (item.Bare t n) = let e = no_joins_either (spaced t.space (arg_here raw n)) in omega (arith, e)
 one_join raw full made (item.Full t n) = let e = no_joins (spaced t.space (arg_here full n)) in omega (arith, e)
-one_join raw full made (item.CommaRest c t n) = let e = no_joins_either (comma_and_here (unhidden c) (spaced t.space (arg_here full n)) (arg_here raw n)) in omega (arith, e)
+one_join raw full made (item.CommaRest c t n) = let e = no_joins_comma (unhidden c) (or_placemarker_here (spaced t.space (arg_here full n))) (arg_here raw n) (no_joins_either (spaced t.space (arg_here full n))) in omega (arith, e)
 one_join raw full made item.Paste = omega arith
 
 pub joins_cut : (xs : List Part) (i : ℕ) (d : Part) → i < length xs → joins (drop i xs) ≡ joins (get_or xs i d ∷ []) + joins (drop (i + 1) xs)

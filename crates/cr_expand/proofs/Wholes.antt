@@ -6,7 +6,7 @@ use Rattle.std.proofs.lemmas.Bool.Decides.{nat_tests}
 use Rattle.std.specs.Prelude.{◌||◌, ◌==◌, not, flat_map, if◌then◌else◌}
 use Rattle.cr_base.specs.declared.cause.Role.TheVariants.{MacroName, Dropped}
 use Rattle.cr_macros.specs.Tokens.{Text, Token, MacroText, Answer, Gave, Work, after, then_do, ◌>>=◌, give, takes}
-use Rattle.cr_macros.specs.Substitution.{Args, Item, Stays, Spelt, Bare, Full, CommaRest, Paste, body_items, is_use, arg_at, string_of, with_space, or_placemarker, comma_and, Is, filled, all_filled, all_pasted, placed, dropped}
+use Rattle.cr_macros.specs.Substitution.{Part, Args, Item, Stays, Spelt, Bare, Full, CommaRest, Paste, body_items, is_use, arg_at, string_of, with_space, or_placemarker, comma_and, Is, filled, all_filled, all_pasted, placed, dropped}
 use Rattle.cr_macros.specs.Expansion.{put_in}
 use Rattle.cr_expand.specs.declared.held.Held.{Held}
 use Rattle.cr_expand.specs.HideSets.{Sets}
@@ -70,10 +70,10 @@ arg_kept w i (suc k) (a ∷ raw) = arg_kept w (i + 1) k raw ∙ ap (λ n. kept (
 arg_whole : (w : ℕ → Bool) (k : ℕ) (raw : Args) → w k ≡ true → arg_at (all_kept w 0 raw) k ≡ arg_at raw k
 arg_whole w k raw h = arg_kept w 0 k raw ∙ ap (λ n. kept (w n) (arg_at raw k)) (let e : 0 + k ≡ k = omega arith in e) ∙ ap (λ b. kept b (arg_at raw k)) h
 
-comma_kept : (comma : Token) (full arg : List Token) (b : Bool) → comma_and comma full (kept b arg) ≡ comma_and comma full arg
-comma_kept comma full arg true = refl
-comma_kept comma full [] false = refl
-comma_kept comma full (a ∷ arg) false = refl
+comma_kept : (comma : Token) (rest : List Part) (arg : List Token) (b : Bool) → comma_and comma rest (kept b arg) ≡ comma_and comma rest arg
+comma_kept comma rest arg true = refl
+comma_kept comma rest [] false = refl
+comma_kept comma rest (a ∷ arg) false = refl
 
 -- where an item takes an argument as it is, all of it is kept
 abbrev pub IsItemKept : (ℕ → Bool) → Item → Type 0
@@ -90,8 +90,8 @@ filled_kept name raw full w (Spelt hash i) left h = ap (λ a. then_do (string_of
 filled_kept name raw full w (Bare t i) left h = ap (λ a. Gave (or_placemarker (with_space t.space a)) left []) (sym (arg_whole w i raw h))
 filled_kept name raw full w (Full t i) left h = refl
 filled_kept name raw full w (CommaRest comma t i) left h =
-    ap (λ a. Gave (or_placemarker a) left []) (sym (comma_kept comma (with_space t.space (arg_at full i)) (arg_at raw i) (w (0 + i))))
-    ∙ ap (λ a. Gave (or_placemarker (comma_and comma (with_space t.space (arg_at full i)) a)) left []) (sym (arg_kept w 0 i raw))
+    ap (λ a. Gave a left []) (sym (comma_kept comma (or_placemarker (with_space t.space (arg_at full i))) (arg_at raw i) (w (0 + i))))
+    ∙ ap (λ a. Gave (comma_and comma (or_placemarker (with_space t.space (arg_at full i))) a) left []) (sym (arg_kept w 0 i raw))
 filled_kept name raw full w Paste left h = refl
 
 same_number : (n : ℕ) (b : Bool) → ((n == n) || b) ≡ true

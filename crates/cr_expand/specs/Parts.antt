@@ -45,9 +45,9 @@ abbrev pub or_placemarker_here : List Held → List Part
 or_placemarker_here [] = part.Placemarker ∷ []
 or_placemarker_here (h ∷ hs) = part.Is h ∷ parts_here hs
 
-abbrev pub comma_and_here : Held → List Held → List Held → List Held
-comma_and_here comma full [] = []
-comma_and_here comma full (a ∷ as1) = comma ∷ full
+abbrev pub comma_and_here : Held → List Part → List Held → List Part
+comma_and_here comma rest [] = part.Placemarker ∷ []
+comma_and_here comma rest (a ∷ as1) = part.Is comma ∷ rest
 
 abbrev pub unhidden : PpTok → Held
 unhidden t = record { token = t; hide = record { 0 = 0 } }
@@ -58,7 +58,7 @@ filled_here raw full made (item.Stays t) = part.Is (unhidden t) ∷ []
 filled_here raw full made (item.Spelt hash i) = part.Is made ∷ []
 filled_here raw full made (item.Bare t i) = or_placemarker_here (spaced t.space (arg_here raw i))
 filled_here raw full made (item.Full t i) = parts_here (spaced t.space (arg_here full i))
-filled_here raw full made (item.CommaRest comma t i) = or_placemarker_here (comma_and_here (unhidden comma) (spaced t.space (arg_here full i)) (arg_here raw i))
+filled_here raw full made (item.CommaRest comma t i) = comma_and_here (unhidden comma) (or_placemarker_here (spaced t.space (arg_here full i))) (arg_here raw i)
 filled_here raw full made item.Paste = part.Joins ∷ []
 
 -- The names of an item's tokens are known.

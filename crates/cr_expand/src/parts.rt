@@ -82,14 +82,14 @@ fn put_comma_rest(
     full: &[Held],
     space: bool,
 ) -> Result<(), OutOfMemory>
-    ensures { OnOk result (parts.new.items ≡ parts.old.items ++ or_placemarker_here (comma_and_here (unhidden comma) (spaced space full.now) raw.now)) }
+    ensures { OnOk result (parts.new.items ≡ parts.old.items ++ comma_and_here (unhidden comma) (or_placemarker_here (spaced space full.now)) raw.now) }
 {
     if raw.is_empty() {
         parts.push(Part::Placemarker)?;
         return Ok(());
     }
     parts.push(Part::Is(unhidden(comma)))?;
-    put_tokens(parts, full, space)?;
+    put_or_placemarker(parts, full, space)?;
     Ok(())
 }
 

@@ -161,9 +161,9 @@ string_sim r name hash arg = record { at = λ left. go left (is_string (in_quote
       ∙ ap (λ b. cond b (note (renamed_events r (flat_map (takes Stringized) arg)) (made (shifted r name) Str (in_quotes (spelling arg)) hash.space [])) (fail (BadPaste (r.shift name.site))) left) e
   go left false e = tt
 
-comma_renamed : (r : Renaming) (comma : Token) (full arg : List Token) → comma_and (renamed r comma) (all_renamed r full) (all_renamed r arg) ≡ all_renamed r (comma_and comma full arg)
-comma_renamed r comma full [] = refl
-comma_renamed r comma full (a ∷ as1) = refl
+comma_renamed : (r : Renaming) (comma : Token) (rest : List Part) (arg : List Token) → comma_and (renamed r comma) (renamed_parts r rest) (all_renamed r arg) ≡ renamed_parts r (comma_and comma rest arg)
+comma_renamed r comma rest [] = refl
+comma_renamed r comma rest (a ∷ as1) = refl
 
 parts_renamed : (r : Renaming) (ts : List Token) → parts_of (all_renamed r ts) ≡ renamed_parts r (parts_of ts)
 parts_renamed r [] = refl
@@ -189,11 +189,11 @@ filled_sim r name raw full (Bare t i) =
 filled_sim r name raw full (Full t i) =
     sim_parts r _ _ (ap parts_of (ap (with_space t.space) (arg_renamed r full i) ∙ space_renamed r t.space (arg_at full i)) ∙ parts_renamed r (with_space t.space (arg_at full i)))
 filled_sim r name raw full (CommaRest comma t i) =
-    sim_parts r (or_placemarker (comma_and comma (with_space t.space (arg_at full i)) (arg_at raw i))) (or_placemarker (comma_and (renamed r comma) (with_space t.space (arg_at (renamed_args r full) i)) (arg_at (renamed_args r raw) i)))
-    (ap or_placemarker (ap (comma_and (renamed r comma) (with_space t.space (arg_at (renamed_args r full) i))) (arg_renamed r raw i)
-    ∙ ap (λ x. comma_and (renamed r comma) x (all_renamed r (arg_at raw i))) (ap (with_space t.space) (arg_renamed r full i) ∙ space_renamed r t.space (arg_at full i))
-    ∙ comma_renamed r comma (with_space t.space (arg_at full i)) (arg_at raw i))
-    ∙ placemarker_renamed r (comma_and comma (with_space t.space (arg_at full i)) (arg_at raw i)))
+    sim_parts r (comma_and comma (or_placemarker (with_space t.space (arg_at full i))) (arg_at raw i)) (comma_and (renamed r comma) (or_placemarker (with_space t.space (arg_at (renamed_args r full) i))) (arg_at (renamed_args r raw) i))
+    (ap (comma_and (renamed r comma) (or_placemarker (with_space t.space (arg_at (renamed_args r full) i)))) (arg_renamed r raw i)
+    ∙ ap (λ x. comma_and (renamed r comma) (or_placemarker x) (all_renamed r (arg_at raw i))) (ap (with_space t.space) (arg_renamed r full i) ∙ space_renamed r t.space (arg_at full i))
+    ∙ ap (λ x. comma_and (renamed r comma) x (all_renamed r (arg_at raw i))) (placemarker_renamed r (with_space t.space (arg_at full i)))
+    ∙ comma_renamed r comma (or_placemarker (with_space t.space (arg_at full i))) (arg_at raw i))
 filled_sim r name raw full Paste = sim_give r (renamed_parts r) (Joins ∷ [])
 
 all_filled_sim : (r : Renaming) (name : Token) (raw full : Args) (its : List Item) → Sim r (renamed_parts r) (all_filled name raw full its) (all_filled (shifted r name) (renamed_args r raw) (renamed_args r full) (map (renamed_item r) its))

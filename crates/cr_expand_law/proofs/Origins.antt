@@ -115,9 +115,9 @@ module _ (test : Origin → Bool) (made_passes : test Made ≡ true) where
   placemarker_passes [] h = (tt, tt)
   placemarker_passes (t ∷ ts) h = (h.0, parts_pass ts h.1)
 
-  comma_passes : (c : Token) (full arg : List Token) → Passes test c → AllPass test full → AllPass test (comma_and c full arg)
-  comma_passes c full [] h k = tt
-  comma_passes c full (a ∷ as1) h k = (h, k)
+  comma_passes : (c : Token) (rest : List Part) (arg : List Token) → Passes test c → PartsPass test rest → PartsPass test (comma_and c rest arg)
+  comma_passes c rest [] h k = (tt, tt)
+  comma_passes c rest (a ∷ as1) h k = (h, k)
 
   string_gives : (name hash : Token) (arg : List Token) → Gives (Passes test) (string_of name hash arg)
   string_gives name hash arg =
@@ -129,8 +129,8 @@ module _ (test : Origin → Bool) (made_passes : test Made ≡ true) where
   filled_gives name raw full (Bare t n) h k i = gives_give (PartsPass test) (or_placemarker (with_space t.space (arg_at raw n))) (placemarker_passes (with_space t.space (arg_at raw n)) (space_passes t.space (arg_at raw n) (arg_passes raw n h)))
   filled_gives name raw full (Full t n) h k i = gives_give (PartsPass test) (parts_of (with_space t.space (arg_at full n))) (parts_pass (with_space t.space (arg_at full n)) (space_passes t.space (arg_at full n) (arg_passes full n k)))
   filled_gives name raw full (CommaRest comma t n) h k i =
-      gives_give (PartsPass test) (or_placemarker (comma_and comma (with_space t.space (arg_at full n)) (arg_at raw n)))
-      (placemarker_passes (comma_and comma (with_space t.space (arg_at full n)) (arg_at raw n)) (comma_passes comma (with_space t.space (arg_at full n)) (arg_at raw n) i (space_passes t.space (arg_at full n) (arg_passes full n k))))
+      gives_give (PartsPass test) (comma_and comma (or_placemarker (with_space t.space (arg_at full n))) (arg_at raw n))
+      (comma_passes comma (or_placemarker (with_space t.space (arg_at full n))) (arg_at raw n) i (placemarker_passes (with_space t.space (arg_at full n)) (space_passes t.space (arg_at full n) (arg_passes full n k))))
   filled_gives name raw full Paste h k i = gives_give (PartsPass test) (Joins ∷ []) (tt, tt)
 
   all_filled_gives : (name : Token) (raw full : Args) (its : List Item) → ArgsPass test raw → ArgsPass test full → AllByRecursion (ItemPasses test) its → Gives (PartsPass test) (all_filled name raw full its)

@@ -180,9 +180,9 @@ or_placemarker [] = Placemarker ∷ []
 or_placemarker (t ∷ ts) = Is t ∷ parts_of ts
 
 -- the comma goes where the variable argument is empty
-abbrev pub comma_and : Token → List Token → List Token → List Token
-comma_and comma full [] = []
-comma_and comma full (a ∷ as1) = comma ∷ full
+abbrev pub comma_and : Token → List Part → List Token → List Part
+comma_and comma rest [] = Placemarker ∷ []
+comma_and comma rest (a ∷ as1) = Is comma ∷ rest
 
 -- an item with its argument as it is, or as it is expanded
 abbrev pub filled : Token → Args → Args → Item → Work (List Part)
@@ -190,7 +190,7 @@ filled name raw full (Stays t) = give (Is t ∷ [])
 filled name raw full (Spelt hash i) = string_of name hash (arg_at raw i) >>= λ s. give (Is s ∷ [])
 filled name raw full (Bare t i) = give (or_placemarker (with_space t.space (arg_at raw i)))
 filled name raw full (Full t i) = give (parts_of (with_space t.space (arg_at full i)))
-filled name raw full (CommaRest comma t i) = give (or_placemarker (comma_and comma (with_space t.space (arg_at full i)) (arg_at raw i)))
+filled name raw full (CommaRest comma t i) = give (comma_and comma (or_placemarker (with_space t.space (arg_at full i))) (arg_at raw i))
 filled name raw full Paste = give (Joins ∷ [])
 
 abbrev pub all_filled : Token → Args → Args → List Item → Work (List Part)

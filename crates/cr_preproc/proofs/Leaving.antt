@@ -57,7 +57,7 @@ leaves_filled name raw full (Stays t) = leaves_give (Is t ∷ [])
 leaves_filled name raw full (Spelt hash n) = leaves_then (string_of name hash (arg_at raw n)) (λ s. give (Is s ∷ [])) (leaves_string name hash (arg_at raw n)) (λ s. leaves_give (Is s ∷ []))
 leaves_filled name raw full (Bare t n) = leaves_give (or_placemarker (with_space t.space (arg_at raw n)))
 leaves_filled name raw full (Full t n) = leaves_give (parts_of (with_space t.space (arg_at full n)))
-leaves_filled name raw full (CommaRest comma t n) = leaves_give (or_placemarker (comma_and comma (with_space t.space (arg_at full n)) (arg_at raw n)))
+leaves_filled name raw full (CommaRest comma t n) = leaves_give (comma_and comma (or_placemarker (with_space t.space (arg_at full n))) (arg_at raw n))
 leaves_filled name raw full Paste = leaves_give (Joins ∷ [])
 
 leaves_all_filled : (name : Token) (raw full : Args) (its : List Item) → Leaves (all_filled name raw full its)
