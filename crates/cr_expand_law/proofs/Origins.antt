@@ -13,7 +13,7 @@ use Rattle.cr_macros.specs.Substitution.{Item, Stays, Spelt, Bare, Full, CommaRe
 use Rattle.cr_macros.specs.Substitution
 use Rattle.cr_macros.specs.Expansion.{Table, Use, Keep, Predefined, Object, Call, Wrong, predefined, found_after, closed_by, to_close, into_first, parted, arguments, counted_call, closed_call, call_of, use_by_params, use_of_macro, use_of_name, use_of, expanded_if, expanded, put_in, by_use, rules, expand_within, expand}
 use Rattle.cr_macros.specs.Uses.{put_for, left_behind}
-use Rattle.cr_expand_law.specs.Origins.{Passes, AllPass, BodiesPass, KeepsOrigins, UsesKeepOrigins}
+use Rattle.cr_expand_law.specs.Origins.{Test, MadePass, Passes, AllPass, BodiesPass, KeepsOrigins, UsesKeepOrigins}
 
 -- work that gives what has a property, if it gives something
 abbrev GivesOnly : {A : Type 0} → (A → Type 0) → Answer A → Type 0
@@ -53,14 +53,14 @@ gives_if : {A : Type 0} (P : A → Type 0) (b : Bool) (m n : Work A) → Gives P
 gives_if P true m n h k = h
 gives_if P false m n h k = k
 
-both_pass : (test : Origin → Bool) (xs ys : List Token) → AllPass test xs → AllPass test ys → AllPass test (xs ++ ys)
+both_pass : (test : Test) (xs ys : List Token) → AllPass test xs → AllPass test ys → AllPass test (xs ++ ys)
 both_pass test [] ys h k = k
 both_pass test (x ∷ xs) ys h k = (h.0, both_pass test xs ys h.1 k)
 
-abbrev ArgsPass : (Origin → Bool) → Args → Type 0
+abbrev ArgsPass : Test → Args → Type 0
 ArgsPass test = AllByRecursion (AllPass test)
 
-abbrev ItemPasses : (Origin → Bool) → Item → Type 0
+abbrev ItemPasses : Test → Item → Type 0
 ItemPasses test (Stays t) = Passes test t
 ItemPasses test (CommaRest c v i) = Passes test c
 ItemPasses test (Spelt t i) = Unit {0}
@@ -68,19 +68,19 @@ ItemPasses test (Bare t i) = Unit {0}
 ItemPasses test (Full t i) = Unit {0}
 ItemPasses test Paste = Unit {0}
 
-abbrev PartPasses : (Origin → Bool) → Part → Type 0
+abbrev PartPasses : Test → Part → Type 0
 PartPasses test (Is t) = Passes test t
 PartPasses test Placemarker = Unit {0}
 PartPasses test Joins = Unit {0}
 
-abbrev PartsPass : (Origin → Bool) → List Part → Type 0
+abbrev PartsPass : Test → List Part → Type 0
 PartsPass test = AllByRecursion (PartPasses test)
 
-parts_both : (test : Origin → Bool) (xs ys : List Part) → PartsPass test xs → PartsPass test ys → PartsPass test (xs ++ ys)
+parts_both : (test : Test) (xs ys : List Part) → PartsPass test xs → PartsPass test ys → PartsPass test (xs ++ ys)
 parts_both test [] ys h k = k
 parts_both test (x ∷ xs) ys h k = (h.0, parts_both test xs ys h.1 k)
 
-module _ (test : Origin → Bool) (made_passes : test Made ≡ true) where
+module _ (test : Test) (made_passes : MadePass test) where
   -- the items of a body
   item_passes : (t : Token) (p b : Bool) (s : Option ℕ) (rest : Option (Token × ℕ)) (o : Option ℕ) → Passes test t → ItemPasses test (item_by t p b s rest o).0
   item_passes t true b s rest o h = tt
@@ -121,7 +121,7 @@ module _ (test : Origin → Bool) (made_passes : test Made ≡ true) where
 
   string_gives : (name hash : Token) (arg : List Token) → Gives (Passes test) (string_of name hash arg)
   string_gives name hash arg =
-      gives_if (Passes test) (is_string (in_quotes (spelling arg))) _ _ (gives_note (Passes test) _ (made name Str (in_quotes (spelling arg)) hash.space []) made_passes) (gives_fail (Passes test) _)
+      gives_if (Passes test) (is_string (in_quotes (spelling arg))) _ _ (gives_note (Passes test) _ (made name Str (in_quotes (spelling arg)) hash.space []) (made_passes Str (in_quotes (spelling arg)))) (gives_fail (Passes test) _)
 
   filled_gives : (name : Token) (raw full : Args) (item : Item) → ArgsPass test raw → ArgsPass test full → ItemPasses test item → Gives (PartsPass test) (filled name raw full item)
   filled_gives name raw full (Stays t) h k i = gives_give (PartsPass test) (Is t ∷ []) (i, tt)
@@ -143,7 +143,7 @@ module _ (test : Origin → Bool) (made_passes : test Made ≡ true) where
   paste_gives name a b = go (one_token (a.text ++ b.text)) where
     go : (o : Option PpKind) → Gives (Passes test) (pasted_as name a b o)
     go None = gives_fail (Passes test) _
-    go (Some kind) = gives_note (Passes test) _ (made name kind (a.text ++ b.text) a.space (both a.hide b.hide)) made_passes
+    go (Some kind) = gives_note (Passes test) _ (made name kind (a.text ++ b.text) a.space (both a.hide b.hide)) (made_passes kind (a.text ++ b.text))
 
   abbrev LeftPasses : Option Token → Type 0
   LeftPasses None = Unit {0}
@@ -305,7 +305,7 @@ module _ (test : Origin → Bool) (made_passes : test Made ≡ true) where
         gives_then (Passes test) (AllPass test) (note (Rule ∷ []) t) (λ t1. e rest >>= λ out. give (t1 ∷ out)) (gives_note (Passes test) (Rule ∷ []) t h)
         (λ t1 p. gives_then (AllPass test) (AllPass test) (e rest) (λ out. give (t1 ∷ out)) (ge rest k) (λ out q. gives_give (AllPass test) (t1 ∷ out) (p, q)))
     use_gives t rest (Predefined kind text) h k u =
-        gives_then (Passes test) (AllPass test) (note (takes MacroName t) (made t kind text t.space [])) (λ one. pay 2 one >>= λ one1. e rest >>= λ out. give (one1 ∷ out)) (gives_note (Passes test) (takes MacroName t) (made t kind text t.space []) made_passes)
+        gives_then (Passes test) (AllPass test) (note (takes MacroName t) (made t kind text t.space [])) (λ one. pay 2 one >>= λ one1. e rest >>= λ out. give (one1 ∷ out)) (gives_note (Passes test) (takes MacroName t) (made t kind text t.space []) (made_passes kind text))
         (λ one p. gives_then (Passes test) (AllPass test) (pay 2 one) (λ one1. e rest >>= λ out. give (one1 ∷ out)) (gives_pay (Passes test) 2 one p)
         (λ one1 q. gives_then (AllPass test) (AllPass test) (e rest) (λ out. give (one1 ∷ out)) (ge rest k) (λ out x. gives_give (AllPass test) (one1 ∷ out) (q, x))))
     use_gives t rest (Object m) h k u =
@@ -332,7 +332,7 @@ module _ (test : Origin → Bool) (made_passes : test Made ≡ true) where
   put_gives : (table : Table) (t : Token) (u : Use) → BodiesPass test table → Passes test t → UsePasses u → Gives (AllPass test) (put_for table t u)
   put_gives table t Keep b h u = gives_note (AllPass test) (Rule ∷ []) (t ∷ []) (h, tt)
   put_gives table t (Predefined kind text) b h u =
-      gives_then (AllPass test) (AllPass test) (note (takes MacroName t) (made t kind text t.space [] ∷ [])) (pay 2) (gives_note (AllPass test) (takes MacroName t) (made t kind text t.space [] ∷ []) (made_passes, tt)) (λ ts p. gives_pay (AllPass test) 2 ts p)
+      gives_then (AllPass test) (AllPass test) (note (takes MacroName t) (made t kind text t.space [] ∷ [])) (pay 2) (gives_note (AllPass test) (takes MacroName t) (made t kind text t.space [] ∷ []) (made_passes kind text, tt)) (λ ts p. gives_pay (AllPass test) 2 ts p)
   put_gives table t (Object m) b h u = with_call (expand table) (expand_gives table b) t m [] [] (with_name t.text t.hide) u tt tt
   put_gives table t (Call m args close after) b h u =
       gives_then (ArgsPass test) (AllPass test) (expanded (expand table) (body_items m) 0 args) (λ fulls. Substitution.subst t m args fulls (with_name t.text (both t.hide close.hide)) >>= put_in) (expanded_gives (expand table) (expand_gives table b) (body_items m) args 0 u.1)

@@ -21,8 +21,8 @@ pub fn renaming_keeps_each_use()
     ensures { KeepsUses }
 {}
 
-/// The tokens that a list of preprocessing tokens expands to come from the list, from the bodies of
-/// macros, or are made. So do those that a use of a rule puts in.
+/// The tokens that a list of preprocessing tokens expands to come, with their kinds and spellings,
+/// from the list, from the bodies of macros, or are made. So do those that a use of a rule puts in.
 ///
 /// It does nothing: its contract is the law.
 pub fn expansion_keeps_origins()

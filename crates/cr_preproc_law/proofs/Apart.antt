@@ -15,7 +15,7 @@ use Rattle.cr_snapshot.specs.Files.{Finding, Present, Absent, Unknown}
 use Rattle.cr_macros.specs.Tokens.{Text, Token, is_ident}
 use Rattle.cr_macros.specs.Substitution.{is_hash}
 use Rattle.cr_expand_law.specs.Renaming.{Renaming, is_at, is_old, is_renamed}
-use Rattle.cr_expand_law.specs.Origins.{Passes, AllPass}
+use Rattle.cr_expand_law.specs.Origins.{Test, Passes, AllPass}
 use Rattle.cr_phase4.specs.declared.conditionals.Word.{Word}
 use Rattle.cr_phase4.specs.Lines.{file_of, token_in, place_in, begins_line, into_line, lines_of, Line, Plain, Conditional, Directive, Empty, Wordless, word_of, by_word, line_of}
 use Rattle.cr_phase4.specs.Search.{World}
@@ -54,8 +54,11 @@ abbrev is_there : Place → Origin → Bool
 is_there p Made = false
 is_there p (At q) = q.path.0 == p.path.0 && q.offset == p.offset
 
-abbrev elsewhere : Place → Origin → Bool
-elsewhere p o = not (is_there p o)
+abbrev is_away : Place → Origin → Bool
+is_away p o = not (is_there p o)
+
+abbrev elsewhere : Place → Test
+elsewhere p kind text o = is_away p o
 
 same_number : (n : ℕ) → (n == n) ≡ true
 same_number n = grind (arith, nat_tests)
@@ -68,11 +71,11 @@ and_no : (p q : Bool) → q ≡ false → (p && q) ≡ false
 and_no true q h = h
 and_no false q h = refl
 
-there_itself : (p : Place) → elsewhere p (At p) ≡ false
+there_itself : (p : Place) → is_away p (At p) ≡ false
 there_itself p = ap (λ b. not (b && p.offset == p.offset)) (same_number p.path.0) ∙ ap not (same_number p.offset)
 
 offset_passes : (n k : ℕ) (t : Token) → t.origin ≡ At (place_in n t.site.offset) → (t.site.offset < k) ⊎ (k < t.site.offset) → Passes (elsewhere (place_in n k)) t
-offset_passes n k t e h = ap (elsewhere (place_in n k)) e ∙ ap not (and_no (n == n) (t.site.offset == k) (other_number t.site.offset k h))
+offset_passes n k t e h = ap (is_away (place_in n k)) e ∙ ap not (and_no (n == n) (t.site.offset == k) (other_number t.site.offset k h))
 
 stand_end : (n from : ℕ) (ts : List Token) (end : ℕ) → Stand n from ts end → from ≤ end
 stand_end n from [] end s = s
@@ -91,11 +94,11 @@ above_pass n k from (t ∷ ts) end s h = (offset_passes n k t s.0 (inr (let w = 
 
 -- a line all of whose tokens pass
 
-word_passes : (test : Origin → Bool) (l : List Token) (hash : Place) (t : Token) (ts : List Token) (o : Option Word) → AllPass test ts → LinePasses test l (by_word hash t ts o)
+word_passes : (test : Test) (l : List Token) (hash : Place) (t : Token) (ts : List Token) (o : Option Word) → AllPass test ts → LinePasses test l (by_word hash t ts o)
 word_passes test l hash t ts None h = λ e. h
 word_passes test l hash t ts (Some w) h = tt
 
-line_passes : (test : Origin → Bool) (l : List Token) → AllPass test l → LinePasses test l (line_of l)
+line_passes : (test : Test) (l : List Token) → AllPass test l → LinePasses test l (line_of l)
 line_passes test [] h = tt
 line_passes test (a ∷ []) h = go (is_hash a) where
   go : (b : Bool) → LinePasses test (a ∷ []) (cond b Empty Plain)
@@ -186,13 +189,13 @@ others_pass n k from (l ∷ ls) end s (inr a) = (line_passes (elsewhere (place_i
 -- tokens of another file
 file_passes : (m n k from : ℕ) (ts : List Token) (end : ℕ) → (m == n) ≡ false → Stand m from ts end → AllPass (elsewhere (place_in n k)) ts
 file_passes m n k from [] end h s = tt
-file_passes m n k from (t ∷ ts) end h s = (ap (elsewhere (place_in n k)) s.0 ∙ ap (λ b. not (b && t.site.offset == k)) h, file_passes m n k (suc t.site.offset) ts end h s.2)
+file_passes m n k from (t ∷ ts) end h s = (ap (is_away (place_in n k)) s.0 ∙ ap (λ b. not (b && t.site.offset == k)) h, file_passes m n k (suc t.site.offset) ts end h s.2)
 
 other_file : (m n k from : ℕ) (ls : List (List Token)) (end : ℕ) → (m == n) ≡ false → StandLines m from ls end → AllByRecursion (λ l. LinePasses (elsewhere (place_in n k)) l (line_of l)) ls
 other_file m n k from [] end h s = tt
 other_file m n k from (l ∷ ls) end h s = (line_passes (elsewhere (place_in n k)) l (file_passes m n k from l s.0 h s.1), other_file m n k s.0 ls end h s.2)
 
-contained : (test : Origin → Bool) (ts : List Token) (t : Token) → AllPass test ts → Contains ts t → Passes test t
+contained : (test : Test) (ts : List Token) (t : Token) → AllPass test ts → Contains ts t → Passes test t
 contained test [] t h (k, l, e) = absurd (omega arith)
 contained test (x ∷ xs) t h (zero, l, e) = subst (Passes test) e h.0
 contained test (x ∷ xs) t h (suc k, l, e) = contained test xs t h.1 (k, omega arith, e)
@@ -268,8 +271,8 @@ module _ (finals_pass : FinalsPass) (in_order : StandsInOrder) (w : World) (numb
 
   not_final : (path : Text) (n k : ℕ) (bytes : List ℕ) → w.find path ≡ Present n bytes → ApartAt k (file_of n bytes).lines → IsFinalPlace w (place_in n k) → ⊥
   not_final path n k bytes e a (u, s, events, t, whole, within, origin) =
-      let pass : Passes (elsewhere (place_in n k)) t = contained (elsewhere (place_in n k)) _ t (finals_pass (elsewhere (place_in n k)) w u s events refl (all_pass path n k bytes e a) whole) within in
-      let no : false ≡ true = sym (there_itself (place_in n k)) ∙ sym (ap (elsewhere (place_in n k)) origin) ∙ pass in cc
+      let pass : Passes (elsewhere (place_in n k)) t = contained (elsewhere (place_in n k)) _ t (finals_pass (elsewhere (place_in n k)) w u s events (λ kind text. refl) (all_pass path n k bytes e a) whole) within in
+      let no : false ≡ true = sym (there_itself (place_in n k)) ∙ sym (ap (is_away (place_in n k)) origin) ∙ pass in cc
 
   pub finals_are_apart : (places : Places) (old new path : Text) (n : ℕ) (bytes : List ℕ) → w.find path ≡ Present n bytes → ((k : ℕ) → is_among (places n) k ≡ true → IsFinalPlace w (place_in n k)) → AreApart (renaming_at places old new) (file_of n bytes)
   finals_are_apart places old new path n bytes e final = lines_apart places old new n 0 (file_of n bytes).lines (length bytes) (file_stands n bytes) (λ k h a. not_final path n k bytes e a (final k h))

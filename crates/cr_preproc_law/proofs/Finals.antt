@@ -18,7 +18,7 @@ use Rattle.cr_macros.specs.Tokens.{Text, Token, MacroText, Event as Telling, is_
 use Rattle.cr_macros.specs.Expansion.{Table, use_of, expand}
 use Rattle.cr_macros.specs.Uses.{put_for, is_given, left_behind}
 use Rattle.cr_macros.specs.Substitution.{param}
-use Rattle.cr_expand_law.specs.Origins.{Passes, AllPass, UsesKeepOrigins}
+use Rattle.cr_expand_law.specs.Origins.{Test, MadePass, Passes, AllPass, UsesKeepOrigins}
 use Rattle.cr_phase4.specs.declared.conditionals.Word.{Word}
 use Rattle.cr_phase4.specs.declared.conditionals.Word.TheVariants.{If, Ifdef, Ifndef, Elif, Else, Endif}
 use Rattle.cr_phase4.specs.declared.conditionals.OpenIf.{OpenIf}
@@ -38,16 +38,16 @@ use Rattle.cr_preproc_law.specs.Finals.{LinePasses, FilePasses, FoundPasses, Fin
 abbrev Any : {A : Type 0} → A → Type 0
 Any a = Prim.Unit {0}
 
-both_pass : (test : Origin → Bool) (xs ys : List Token) → AllPass test xs → AllPass test ys → AllPass test (xs ++ ys)
+both_pass : (test : Test) (xs ys : List Token) → AllPass test xs → AllPass test ys → AllPass test (xs ++ ys)
 both_pass test [] ys h k = k
 both_pass test (x ∷ xs) ys h k = (h.0, both_pass test xs ys h.1 k)
 
-drop_passes : (test : Origin → Bool) (n : ℕ) (ts : List Token) → AllPass test ts → AllPass test (drop n ts)
+drop_passes : (test : Test) (n : ℕ) (ts : List Token) → AllPass test ts → AllPass test (drop n ts)
 drop_passes test zero ts h = h
 drop_passes test (suc n) [] h = tt
 drop_passes test (suc n) (t ∷ ts) h = drop_passes test n ts h.1
 
-module _ (test : Origin → Bool) (made_passes : test Made ≡ true) where
+module _ (test : Test) (made_passes : MadePass test) where
   abbrev EventPasses : Event → Type 0
   EventPasses (Final t) = Passes test t
   EventPasses Took = Prim.Unit {0}

@@ -11,3 +11,4 @@ pub mod Apart
 pub mod Edited
 pub mod Traces
 mod Rows
+pub mod Standing

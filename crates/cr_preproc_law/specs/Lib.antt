@@ -1,3 +1,4 @@
 pub mod Renaming
 pub mod Finals
 pub mod Traces
+pub mod Standing

@@ -3,19 +3,31 @@
 
 ghost use Rattle.cr_preproc_law.specs.Renaming.{KeepsPreprocessing};
 ghost use Rattle.cr_preproc_law.specs.Finals.{FinalsPass, SnapshotsAreNumbered};
+ghost use Rattle.cr_preproc_law.specs.Standing.{FinalsStand};
 ghost use Rattle.cr_preproc_law.specs.Traces.{TracesAreFine};
 
 use cr_expand_law::{expansion_keeps_origins, renaming_keeps_each_use, renaming_keeps_expansion};
 use cr_lex::{renaming_keeps_lexing, tokens_stand_in_order};
 use cr_snapshot::known_files_stay_known;
 
-/// The final tokens of a unit come from text lines and from definitions of its files, or are made.
+/// The final tokens of a unit come, with their kinds and spellings, from text lines and from definitions of its files, or
+/// are made.
 ///
 /// It does nothing: its contract is the law.
 pub fn final_tokens_come_from_text()
     ensures { FinalsPass }
 {
     expansion_keeps_origins();
+}
+
+/// A final token that comes from a place stands there, with its spelling, in the file that is known.
+///
+/// It does nothing: its contract is the law.
+pub fn final_tokens_stand_in_files()
+    ensures { FinalsStand }
+{
+    known_files_stay_known();
+    final_tokens_come_from_text();
 }
 
 /// Where a name is replaced in files at places of identifiers that are spelled so, each of them a
