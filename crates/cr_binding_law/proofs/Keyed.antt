@@ -34,7 +34,7 @@ use Rattle.cr_binding.specs.FreeUnits.{IsFreeUnit}
 use Rattle.cr_binding.proofs.Renaming.{entry_found}
 use Rattle.cr_binding_law.specs.Renaming.{text_of, AreEntities, GoesWith}
 use Rattle.cr_binding_law.specs.ConsistentUnits.{IsWritten, IsConsistent}
-use Rattle.cr_binding_law.specs.RenamingKeys.{AreTokensOf, HaveNoConflict, KeysAreEntities, KeysAreFree}
+use Rattle.cr_binding_law.specs.RenamingKeys.{EntitiesHaveOneKey, AreTokensOf, HaveNoConflict, KeysAreEntities, KeysAreFree}
 use Rattle.cr_binding_law.proofs.Growth.{get_contains}
 use Rattle.cr_binding_law.proofs.Consistent.{head_or_tail, in_tail, passing, units_are_consistent}
 use Rattle.cr_binding_law.proofs.Resolving.{same_find, either, get_at}
@@ -442,6 +442,9 @@ module _ (keys : Key → Bool) (class : ℕ → Bool) (unit : ℕ) (t : Source) 
         mentions = λ f what x d mentions conflict at cls. none (declaration_key unit t s d) (place_at t x.1) (sym (of_declaration d (named_there x d at)) ∙ cls) (inl (f, what, x, d, mentions, conflict, at, refl, refl));
         members = λ m k in_m in_k held cls name. none (member_key unit t s m) (place_at t (max m.token k.token)) (sym (of_member m in_m) ∙ cls) (inr (m, k, in_m, in_k, held, spelled m.token cls, name, refl, refl));
       }
+
+pub entities_have_one_key : EntitiesHaveOneKey
+entities_have_one_key unit t tree d e in_d in_e one = one_key unit t (bound t tree) (units_are_consistent t tree) d e in_d in_e one
 
 pub keys_are_entities : KeysAreEntities
 keys_are_entities keys class unit t tree of = entities keys class unit t (bound t tree) (units_are_consistent t tree) of

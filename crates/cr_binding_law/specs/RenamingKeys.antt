@@ -7,10 +7,11 @@ use Rattle.cr_base.specs.declared.key.Key.TheVariants as key
 use Rattle.cr_ll.specs.Derivation.{Trees}
 use Rattle.cr_facts.specs.declared.fact.Fact.TheVariants as fact
 use Rattle.cr_binding.specs.Source.{Source}
-use Rattle.cr_binding.specs.State.{IsBuiltIn, State}
+use Rattle.cr_binding.specs.State.{Declaration, IsBuiltIn, State}
+use Rattle.cr_binding.specs.Entities.{are_one}
 use Rattle.cr_binding.specs.Binding.{bound}
 use Rattle.cr_binding.specs.Resolution.{Thing, occurrences}
-use Rattle.cr_binding.specs.Keys.{key_of}
+use Rattle.cr_binding.specs.Keys.{declaration_key, key_of}
 use Rattle.cr_binding.specs.UnitFacts.{Tells}
 use Rattle.cr_binding.specs.WellFormed.{IsWellFormed}
 use Rattle.cr_binding.specs.FreeUnits.{IsFreeUnit}
@@ -42,6 +43,15 @@ KeysAreFree =
     → AreSpelled class old t
     → HaveNoConflict keys unit t (bound t tree) old new
     → IsFreeUnit class old new t (bound t tree)
+
+-- Declarations of one entity have one key.
+abbrev pub EntitiesHaveOneKey : Type 0
+EntitiesHaveOneKey =
+    (unit : ℕ) (t : Source) (tree : Trees) (d e : Declaration)
+    → Contains (bound t tree).declarations d
+    → Contains (bound t tree).declarations e
+    → are_one t d e ≡ true
+    → declaration_key unit t (bound t tree) d ≡ declaration_key unit t (bound t tree) e
 
 -- So a well-formed unit means the same when the entities of these keys have the new name.
 abbrev pub RenamingOfKeysKeepsUnits : Type 0

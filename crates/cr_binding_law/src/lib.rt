@@ -3,7 +3,7 @@
 
 ghost use Rattle.cr_binding_law.specs.AskedIdentifiers.{AskedIdentifiersAreUsed};
 ghost use Rattle.cr_binding_law.specs.ConsistentUnits.{UnitsAreConsistent, LabelsStandInFunctions};
-ghost use Rattle.cr_binding_law.specs.RenamingKeys.{KeysAreEntities, KeysAreFree, RenamingOfKeysKeepsUnits};
+ghost use Rattle.cr_binding_law.specs.RenamingKeys.{EntitiesHaveOneKey, KeysAreEntities, KeysAreFree, RenamingOfKeysKeepsUnits};
 ghost use Rattle.cr_binding_law.specs.UnitStays.{RenamingKeepsUnits};
 
 use cr_binding::{
@@ -38,11 +38,12 @@ pub fn units_are_consistent()
     ensures labels { LabelsStandInFunctions }
 {}
 
-/// The tokens that mean an entity of some keys are of whole entities; where the facts of a unit tell no conflict of one of
-/// these keys, none of its mentions has one.
+/// Declarations of one entity have one key. So the tokens that mean an entity of some keys are of whole entities; where the
+/// facts of a unit tell no conflict of one of these keys, none of its mentions has one.
 ///
 /// It does nothing: its contract is the law.
 pub fn keys_are_whole_entities()
+    ensures one_key { EntitiesHaveOneKey }
     ensures entities { KeysAreEntities }
     ensures free { KeysAreFree }
 {}

@@ -149,7 +149,9 @@ fn behind_elided_braces_no_member_is_designated(rt: HostRuntime) -> Result<(), F
 
 // struct s v = { sizeof(struct s { int b; struct { int a; } c; }), { .a = 1 } };
 #[test]
-fn a_list_for_a_record_that_ends_within_it_has_no_first_member(rt: HostRuntime) -> Result<(), Fail> {
+fn a_list_for_a_record_that_ends_within_it_has_no_first_member(
+    rt: HostRuntime,
+) -> Result<(), Fail> {
     let p = two_records(rt.alloc())?;
     let mut typing = Typing::new(rt.alloc());
     let mut list = InitList::new(&p.types, &typing, Some(p.outer_ty));
