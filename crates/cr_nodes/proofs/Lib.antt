@@ -5,3 +5,4 @@ pub mod Falling
 pub mod Alternatives
 pub mod Whole
 pub mod Onward
+pub mod Asking

@@ -1,7 +1,9 @@
 -- What runs of the moves are: the steps of trees.
-use Rattle.std.specs.Prelude.{◌≡◌, ℕ, Bool, Ok, Err, List, [], ◌∷◌, ◌++◌}
+use Rattle.std.specs.Prelude.{◌≡◌, ◌⊎◌, ℕ, Bool, Ok, Err, List, [], ◌∷◌, ◌++◌}
 use Rattle.cr_grammar.specs.declared.symbols.NonTerm.{NonTerm}
 use Rattle.cr_grammar.specs.declared.symbols.Action.{Action}
+use Rattle.cr_grammar.specs.declared.symbols.Symbol.{Symbol}
+use Rattle.cr_grammar.specs.declared.symbols.Symbol.TheVariants.{Non}
 use Rattle.cr_ll.specs.Guards.{Terminal}
 use Rattle.cr_ll.specs.Derivation.{Item, Passed, Due, Asked, Trees, Derives, events}
 use Rattle.cr_ll.specs.Machine.{Config}
@@ -99,6 +101,16 @@ abbrev pub ChildrenAreTold : Type 0
 ChildrenAreTold =
     (ts : List Terminal) (es : List Item) (xs : List Step) (c : OpenNodes) (g : Gathered)
     → Run ts at_start at_first es xs c g → (c.inner.node ≡ g.inner.node) × (c.childless ≡ is_empty g.inner.children)
+
+-- the next symbol of the innermost open node is a node, which is opened next unless more is asked
+abbrev pub NodeIsNext : OpenNodes → Type 0
+NodeIsNext c = (m : NonTerm) × (rest : List Symbol) × (c.inner.rest ≡ Non m ∷ rest)
+
+-- After an ask comes a further ask or the opening of a node, so that each ask is one of a node.
+abbrev pub AsksComeBeforeNodes : Type 0
+AsksComeBeforeNodes =
+    (ts : List Terminal) (es : List Item) (xs : List Step) (c : OpenNodes) (g : Gathered)
+    → Run ts at_start at_first es xs c g → (g.asks ≡ []) ⊎ NodeIsNext c
 
 -- The next event that the machine of the grammar gives is waited for, after the same events.
 abbrev pub MachineFits : Type 0

@@ -1,6 +1,6 @@
 //! What runs of the moves are: laws of the definitions. Each function does nothing; its contract is
 //! the law.
-ghost use Rattle.cr_nodes.specs.Laws.{CallsAreRuns, RunsJoin, StepsAreATrees, AllStepsAreMade, RunsDerive, RunsBegin, ChildrenAreTold, MachineFits, EndFits, AwaitedIsFit};
+ghost use Rattle.cr_nodes.specs.Laws.{CallsAreRuns, RunsJoin, StepsAreATrees, AllStepsAreMade, RunsDerive, RunsBegin, ChildrenAreTold, AsksComeBeforeNodes, MachineFits, EndFits, AwaitedIsFit};
 
 use cr_binding::steps_bind;
 
@@ -26,6 +26,11 @@ pub fn runs_are_of_trees()
 {
     steps_bind();
 }
+
+/// After an ask comes a further ask of the same node, or the node is opened.
+pub fn asks_come_before_nodes()
+    ensures { AsksComeBeforeNodes }
+{}
 
 /// The events that the machine of the grammar gives, and its end, are those that the open nodes wait
 /// for, and none of them is unfit.

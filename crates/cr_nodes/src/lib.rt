@@ -6,7 +6,9 @@ mod nodes;
 mod pending;
 mod rows;
 
-pub use laws::{calls_are_a_run, runs_are_of_trees, steps_are_a_trees, the_machine_fits};
+pub use laws::{
+    asks_come_before_nodes, calls_are_a_run, runs_are_of_trees, steps_are_a_trees, the_machine_fits,
+};
 pub use nodes::{Before, Nodes, NodesFault};
 
 #[cfg(test)]
