@@ -36,9 +36,10 @@ use Rattle.cr_nodes.specs.Laws.{Run, stop, NodeIsNext, RunsDerive}
 use Rattle.cr_nodes.specs.Laws as nodes
 use Rattle.cr_nodes.proofs.Asking.{asks_come_before_nodes}
 use Rattle.cr_nodes.proofs.Called.{calls_are_runs, runs_join}
+use Rattle.cr_nodes.proofs.Onward.{all_steps_are_made}
 use Rattle.cr_nodes.proofs.Standing.{runs_begin}
 use Rattle.cr_walk.specs.Seen.{answer_here, WereAnswered, Sees}
-use Rattle.cr_walk.specs.Laws.{BeginsSeen, OpensAreSeen, ClosesAreSeen, TokensAreSeen, ActionsAreSeen, AsksAreSeen, TokensAreIll, ActionsAreIll, EndIsBound}
+use Rattle.cr_walk.specs.Laws.{BeginsSeen, OpensAreSeen, ClosesAreSeen, TokensAreSeen, ActionsAreSeen, AsksAreSeen, TokensAreIll, ActionsAreIll, EndIsBound, TreesAreBound}
 use Rattle.cr_walk.proofs.Asking.{head_or_tail, Keeps, token_asks, action_asks}
 
 -- ---- asks come before nodes alone
@@ -335,7 +336,7 @@ module _ (t : Source) (es : List Item) (k : Known) (c : OpenNodes) (g : Gathered
 
   -- ---- the end
 
-  pub ends_bound : RunsDerive → g.asks ≡ [] → move ts c ≡ Ends → (tree : Trees) × IsWellFormed t tree × (events tree ≡ es) × (k.state ≡ unclosed (bound t tree))
+  pub ends_bound : RunsDerive → g.asks ≡ [] → move ts c ≡ Ends → IsWellFormed t g.inner.children × (events g.inner.children ≡ es) × (k.state ≡ unclosed (bound t g.inner.children))
   ends_bound derive none end =
       let tree : Trees = g.inner.children in
       let made = derive ts es sees.steps c g sees.runs end in
@@ -344,7 +345,6 @@ module _ (t : Source) (es : List Item) (k : Known) (c : OpenNodes) (g : Gathered
       let state : k.state ≡ unclosed (bound t tree) = ap (λ (z : Known). z.state) (plain none) ∙ ap (λ z. (all_known t z known_first).state) made.2 ∙ whole in
       let answered : WereAnswered t (bound t tree) =
       answered_left t k.state (bound t tree) (sym (ap (λ (z : State). z.uses) state)) (sym (ap (λ (z : State). z.declarations) state)) sees.answered in (
-        tree,
         record {
           spans = c.place;
           derives = made.0;
@@ -423,4 +423,12 @@ actions_are_ill t es k c d g x why at sees answer fault =
 pub end_is_bound : RunsDerive → EndIsBound
 end_is_bound derive t es k c d g sees answer =
     let end : move (terminals_of t) c ≡ Ends = (calls_are_runs (terminals_of t) c d g event.Done before.Nothing answer).0 in
-    ends_bound t es k c g sees derive (no_asks t es k c g sees (λ h. subst MayOpen end h)) end
+    let found = ends_bound t es k c g sees derive (no_asks t es k c g sees (λ h. subst MayOpen end h)) end in
+    (g.inner.children, found.0, found.1, found.2)
+
+pub trees_are_bound : RunsDerive → TreesAreBound
+trees_are_bound derive t es k c d g tree j sees answer derives same =
+    let end : move (terminals_of t) c ≡ Ends = (calls_are_runs (terminals_of t) c d g event.Done before.Nothing answer).0 in
+    let made = all_steps_are_made (terminals_of t) tree j es [] sees.steps c g derives (same ∙ sym (append-nil es)) sees.runs end in
+    let found = ends_bound t es k c g sees derive (no_asks t es k c g sees (λ h. subst MayOpen end h)) end in
+    subst (λ z. IsWellFormed t z × (k.state ≡ unclosed (bound t z))) made.2 (found.0, found.2)

@@ -5,7 +5,8 @@ use Rattle.cr_grammar.specs.declared.symbols.NonTerm.{NonTerm}
 use Rattle.cr_grammar.specs.declared.symbols.Action.{Action}
 use Rattle.cr_ll.specs.declared.state.Event.{Event}
 use Rattle.cr_ll.specs.declared.state.Event.TheVariants as event
-use Rattle.cr_ll.specs.Derivation.{Item, Passed, Due, Asked, Trees, events}
+use Rattle.cr_ll.specs.Derivation.{Item, Passed, Due, Asked, Trees, Derives, events}
+use Rattle.cr_ll.specs.Laws.{unit}
 use Rattle.cr_binding.specs.Source.{Source}
 use Rattle.cr_binding.specs.Binding.{bound}
 use Rattle.cr_binding.specs.WellFormed.{terminals_of, IsWellFormed, IsIll}
@@ -76,3 +77,10 @@ EndIsBound =
     (t : Source) (es : List Item) (k : Known) (c d : OpenNodes) (g : Gathered)
     → Sees t es k c g → Answers t c event.Done before.Nothing d
     → (tree : Trees) × IsWellFormed t tree × (events tree ≡ es) × (k.state ≡ unclosed (bound t tree))
+
+-- Any tree with these events that derives from the tokens is that one.
+abbrev pub TreesAreBound : Type 0
+TreesAreBound =
+    (t : Source) (es : List Item) (k : Known) (c d : OpenNodes) (g : Gathered) (tree : Trees) (j : ℕ)
+    → Sees t es k c g → Answers t c event.Done before.Nothing d → Derives (terminals_of t) tree 0 unit j → events tree ≡ es
+    → IsWellFormed t tree × (k.state ≡ unclosed (bound t tree))

@@ -2,7 +2,7 @@
 //! a fault that of an ill-formed one. The functions do nothing: their contracts are laws.
 #![tactic(auto)]
 
-ghost use Rattle.cr_walk.specs.Laws.{BeginsSeen, OpensAreSeen, ClosesAreSeen, TokensAreSeen, ActionsAreSeen, AsksAreSeen, TokensAreIll, ActionsAreIll, EndIsBound};
+ghost use Rattle.cr_walk.specs.Laws.{BeginsSeen, OpensAreSeen, ClosesAreSeen, TokensAreSeen, ActionsAreSeen, AsksAreSeen, TokensAreIll, ActionsAreIll, EndIsBound, TreesAreBound};
 
 use cr_nodes::runs_are_of_trees;
 
@@ -25,7 +25,8 @@ pub fn faults_are_of_the_unit()
 
 /// At the end the unit is well-formed, and what is kept is the binding of its one tree.
 pub fn ends_are_bound()
-    ensures { EndIsBound }
+    ensures end { EndIsBound }
+    ensures trees { TreesAreBound }
 {
     runs_are_of_trees();
 }
