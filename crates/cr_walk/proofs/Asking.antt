@@ -1,8 +1,8 @@
 -- Tokens and actions ask nothing.
 use Rattle.std.specs.Prelude.{◌≡◌, ℕ, Bool, true, false, not, ◌&&◌, if◌then◌else◌, Option, Some, None, is_some, Result, Ok, Err, List, [], ◌∷◌, ◌++◌, map, length, eqb, ◌+◌}
 use Rattle.std.specs.List.{list_any}
-use Rattle.std.proofs.Common.{refl, sym, ◌∙◌, subst, inl, inr, ◌⊎◌, zero, suc, ◌<◌, slice_index_or, Contains, arith}
-use Rattle.std.proofs.lemmas.List.{append-nil}
+use Rattle.std.proofs.Common.{refl, sym, ap, ◌∙◌, subst, inl, inr, ◌⊎◌, zero, suc, ◌<◌, slice_index_or, Contains, arith}
+use Rattle.std.proofs.lemmas.List.{append_assoc, append-nil}
 use Rattle.std.proofs.lemmas.List.Elements.{Contains-append_cases}
 use Rattle.cr_base.specs.declared.cause.IllCause.{IllCause}
 use Rattle.cr_base.specs.declared.Kind.{Kind}
@@ -35,7 +35,6 @@ use Rattle.cr_binding.specs.Scoping.{entered_in, body_within, unless_failed, jum
 use Rattle.cr_binding.specs.Actions.{passed, acted}
 use Rattle.cr_binding.specs.Binding.{unless_refused, goes_on}
 use Rattle.cr_binding.specs.BindingGrows.{Extends}
-use Rattle.cr_binding.proofs.Growing.{extends_on}
 use Rattle.cr_known.specs.Shapes.{Shape}
 use Rattle.cr_known.specs.Known.{declared_by, acted_by}
 
@@ -66,6 +65,9 @@ same s x d u =
 
 itself : (s : State) → Keeps s s
 itself s = same s s refl refl
+
+extends_on : {A : Type 0} (xs ys zs : List A) → Extends xs ys → Extends ys zs → Extends xs zs
+extends_on xs ys zs x y = (x.0 ++ y.0, y.1 ∙ ap (λ l. l ++ y.0) x.1 ∙ append_assoc xs x.0 y.0)
 
 followed : (s x y : State) → Keeps s x → Keeps x y → Keeps s y
 followed s x y g h =

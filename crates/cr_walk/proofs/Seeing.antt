@@ -23,24 +23,29 @@ use Rattle.cr_ll.specs.Laws.{unit}
 use Rattle.cr_decl.specs.Specifiers.{is_permitted}
 use Rattle.cr_known.specs.Known.{Saved, Gathering, Filling, Aiming, put_back, ended_alone, Frame, Known, known_first, known_close, known_close_on, known_pass, known_act, known_asks, known_step, all_known, unclosed}
 use Rattle.cr_known.specs.Known as known
-use Rattle.cr_known.specs.Laws.{AreSoundSteps, AllClose}
-use Rattle.cr_known.proofs.Walking.{known_append, sound_steps_bind}
-use Rattle.cr_known.proofs.Cutting.{faults_of_cut_trees}
+use Rattle.cr_known.specs.Laws.{AreSoundSteps, AllClose, SoundStepsBind, FaultsAreOfCutTrees}
 use Rattle.cr_nodes.specs.declared.nodes.Before.TheVariants as before
 use Rattle.cr_nodes.specs.declared.pending.Pending.{Pending}
 use Rattle.cr_nodes.specs.declared.pending.Pending.TheVariants as pending
 use Rattle.cr_nodes.specs.Moves.{Row, row, OpenNodes, at_start, Move, OpensTo, ClosesTo, PassesTo, ActsTo, AsksAt, Ends, Faults, body_of, opens_by, by_choice, by_pending, move_on, move, replied}
 use Rattle.cr_nodes.specs.Advancing.{awaited}
 use Rattle.cr_nodes.specs.Gathering.{Branch, Gathered, at_first, opening, closing, closing_on, passing, acting, asking}
-use Rattle.cr_nodes.specs.Laws.{Run, stop, NodeIsNext, RunsDerive}
+use Rattle.cr_nodes.specs.Laws.{Run, stop, NodeIsNext, CallsAreRuns, RunsJoin, RunsDerive, RunsBegin, AsksComeBeforeNodes, AllStepsAreMade}
 use Rattle.cr_nodes.specs.Laws as nodes
-use Rattle.cr_nodes.proofs.Asking.{asks_come_before_nodes}
-use Rattle.cr_nodes.proofs.Called.{calls_are_runs, runs_join}
-use Rattle.cr_nodes.proofs.Onward.{all_steps_are_made}
-use Rattle.cr_nodes.proofs.Standing.{runs_begin}
 use Rattle.cr_walk.specs.Seen.{answer_here, WereAnswered, Sees}
 use Rattle.cr_walk.specs.Laws.{BeginsSeen, OpensAreSeen, ClosesAreSeen, TokensAreSeen, ActionsAreSeen, AsksAreSeen, TokensAreIll, ActionsAreIll, EndIsBound, TreesAreBound}
 use Rattle.cr_walk.proofs.Asking.{head_or_tail, Keeps, token_asks, action_asks}
+
+-- the laws below that these stand on
+pub record Lower : Type 0 where
+  pub calls : CallsAreRuns
+  pub join : RunsJoin
+  pub derive : RunsDerive
+  pub begin : RunsBegin
+  pub asks : AsksComeBeforeNodes
+  pub made : AllStepsAreMade
+  pub bind : SoundStepsBind
+  pub faults : FaultsAreOfCutTrees
 
 -- ---- asks come before nodes alone
 
@@ -178,6 +183,10 @@ answered_ask t i s h p path b answer there = by (Contains-append_cases s.uses (W
 
 -- ---- steps
 
+known_append : (t : Source) (xs ys : List Step) (k : Known) → all_known t (xs ++ ys) k ≡ all_known t ys (all_known t xs k)
+known_append t [] ys k = refl
+known_append t (x ∷ xs) ys k = known_append t xs ys (known_step t x k)
+
 sound_on : (t : Source) (xs ys : List Step) (k : Known) → AreSoundSteps t xs k → AreSoundSteps t ys (all_known t xs k) → AreSoundSteps t (xs ++ ys) k
 sound_on t [] ys k h g = g
 sound_on t (Opens m asks ∷ xs) ys k h g = (h.0, sound_on t xs ys (known_step t (Opens m asks) k) h.1 g)
@@ -201,7 +210,7 @@ closes_sound t (Opens m asks ∷ xs) k h = absurd h
 closes_sound t (Passes i ∷ xs) k h = absurd h
 closes_sound t (Acts x ∷ xs) k h = absurd h
 
-module _ (t : Source) (es : List Item) (k : Known) (c : OpenNodes) (g : Gathered) (sees : Sees t es k c g) where
+module _ (lower : Lower) (t : Source) (es : List Item) (k : Known) (c : OpenNodes) (g : Gathered) (sees : Sees t es k c g) where
   abbrev ts : List Terminal
   ts = terminals_of t
 
@@ -210,7 +219,7 @@ module _ (t : Source) (es : List Item) (k : Known) (c : OpenNodes) (g : Gathered
 
   -- where no node is next, no ask waits for one
   no_asks : (MayOpen (move ts c) → ⊥) → g.asks ≡ []
-  no_asks not_open = by (asks_come_before_nodes ts es sees.steps c g sees.runs)
+  no_asks not_open = by (lower.asks ts es sees.steps c g sees.runs)
     where
       by : (g.asks ≡ []) ⊎ NodeIsNext c → g.asks ≡ []
       by (inl e) = e
@@ -220,7 +229,7 @@ module _ (t : Source) (es : List Item) (k : Known) (c : OpenNodes) (g : Gathered
   plain e = sees.known ∙ ap (λ l. known_asks l reached) e
 
   on : (fs : List Item) (xs : List Step) (d : OpenNodes) (h : Gathered) → Run ts c g fs xs d h → Run ts at_start at_first (es ++ fs) (sees.steps ++ xs) d h
-  on fs xs d h run = runs_join ts at_start c d at_first g h es fs sees.steps xs sees.runs run
+  on fs xs d h run = lower.join ts at_start c d at_first g h es fs sees.steps xs sees.runs run
 
   stepped : (x : Step) (asks : List Item) → asks ≡ [] → k ≡ reached → known_step t x k ≡ known_asks asks (all_known t (sees.steps ++ x ∷ []) known_first)
   stepped x asks none e =
@@ -315,7 +324,7 @@ module _ (t : Source) (es : List Item) (k : Known) (c : OpenNodes) (g : Gathered
     cut_off : (trees : Trees) (more : List Step) → Begins ts trees 0 unit → steps trees ≡ all ++ more → AllClose more → IsIll t why at
     cut_off trees more begins e closes =
         let whole : (all_known t (steps trees) known_first).state ≡ unclosed (bound t trees) =
-        sound_steps_bind t trees (subst (λ z. AreSoundSteps t z known_first) (sym e) (sound_on t all more known_first all_sound (closes_sound t more (all_known t all known_first) closes))) in
+        lower.bind t trees (subst (λ z. AreSoundSteps t z known_first) (sym e) (sound_on t all more known_first all_sound (closes_sound t more (all_known t all known_first) closes))) in
         let ends : Left (all_known t all known_first).state (all_known t more (all_known t all known_first)).state = closes_left t more (all_known t all known_first) closes in
         let reaches : all_known t (steps trees) known_first ≡ all_known t more (all_known t all known_first) = ap (λ z. all_known t z known_first) e ∙ known_append t all more known_first in
         let uses : (bound t trees).uses ≡ (known_step t x k).state.uses =
@@ -326,22 +335,22 @@ module _ (t : Source) (es : List Item) (k : Known) (c : OpenNodes) (g : Gathered
           trees = trees;
           begins = begins;
           answered = λ i path b answer there. (answered_left t (known_step t x k).state (bound t trees) uses declarations answered i path b answer there).1;
-          fault = faults_of_cut_trees t trees all more e closes all_sound ∙ ap (λ (z : Known). z.state.fault) last ∙ fault;
+          fault = lower.faults t trees all more e closes all_sound ∙ ap (λ (z : Known). z.state.fault) last ∙ fault;
         }
 
     pub is_ill : IsIll t why at
     is_ill =
-        let cut = runs_begin ts fs all d h run in
+        let cut = lower.begin ts fs all d h run in
         cut_off cut.0 cut.1 cut.2 cut.3 (closes_alike cut.1 cut.4)
 
   -- ---- the end
 
-  pub ends_bound : RunsDerive → g.asks ≡ [] → move ts c ≡ Ends → IsWellFormed t g.inner.children × (events g.inner.children ≡ es) × (k.state ≡ unclosed (bound t g.inner.children))
-  ends_bound derive none end =
+  pub ends_bound : g.asks ≡ [] → move ts c ≡ Ends → IsWellFormed t g.inner.children × (events g.inner.children ≡ es) × (k.state ≡ unclosed (bound t g.inner.children))
+  ends_bound none end =
       let tree : Trees = g.inner.children in
-      let made = derive ts es sees.steps c g sees.runs end in
+      let made = lower.derive ts es sees.steps c g sees.runs end in
       let whole : (all_known t (steps tree) known_first).state ≡ unclosed (bound t tree) =
-      sound_steps_bind t tree (subst (λ z. AreSoundSteps t z known_first) made.2 sees.sound) in
+      lower.bind t tree (subst (λ z. AreSoundSteps t z known_first) made.2 sees.sound) in
       let state : k.state ≡ unclosed (bound t tree) = ap (λ (z : Known). z.state) (plain none) ∙ ap (λ z. (all_known t z known_first).state) made.2 ∙ whole in
       let answered : WereAnswered t (bound t tree) =
       answered_left t k.state (bound t tree) (sym (ap (λ (z : State). z.uses) state)) (sym (ap (λ (z : State). z.declarations) state)) sees.answered in (
@@ -386,49 +395,49 @@ begins_seen t =
       answered = λ i path b answer there. absurd (omega (arith, there.1));
     }
 
-pub opens_are_seen : OpensAreSeen
-opens_are_seen t es k c d g x m sees answer =
-    opens_seen t es k c g sees d m (calls_are_runs (terminals_of t) c d g x (before.Opens m) answer)
+pub opens_are_seen : Lower → OpensAreSeen
+opens_are_seen lower t es k c d g x m sees answer =
+    opens_seen lower t es k c g sees d m (lower.calls (terminals_of t) c d g x (before.Opens m) answer)
 
-pub closes_are_seen : ClosesAreSeen
-closes_are_seen t es k c d g x sees answer =
-    closes_seen t es k c g sees d (no_asks t es k c g sees (λ h. subst MayOpen answer h)) (calls_are_runs (terminals_of t) c d g x before.Closes answer)
+pub closes_are_seen : Lower → ClosesAreSeen
+closes_are_seen lower t es k c d g x sees answer =
+    closes_seen lower t es k c g sees d (no_asks lower t es k c g sees (λ h. subst MayOpen answer h)) (lower.calls (terminals_of t) c d g x before.Closes answer)
 
-pub tokens_are_seen : TokensAreSeen
-tokens_are_seen t es k c d g i sees answer fine =
-    passes_seen t es k c g sees d i (no_asks t es k c g sees (token_awaited (move (terminals_of t) c) i answer.0))
-    (calls_are_runs (terminals_of t) c d g (event.Token i) before.Nothing answer) fine
+pub tokens_are_seen : Lower → TokensAreSeen
+tokens_are_seen lower t es k c d g i sees answer fine =
+    passes_seen lower t es k c g sees d i (no_asks lower t es k c g sees (token_awaited (move (terminals_of t) c) i answer.0))
+    (lower.calls (terminals_of t) c d g (event.Token i) before.Nothing answer) fine
 
-pub actions_are_seen : ActionsAreSeen
-actions_are_seen t es k c d g x sees answer fine =
-    acts_seen t es k c g sees d x (no_asks t es k c g sees (action_awaited (move (terminals_of t) c) x answer.0))
-    (calls_are_runs (terminals_of t) c d g (event.Act x) before.Nothing answer) fine
+pub actions_are_seen : Lower → ActionsAreSeen
+actions_are_seen lower t es k c d g x sees answer fine =
+    acts_seen lower t es k c g sees d x (no_asks lower t es k c g sees (action_awaited (move (terminals_of t) c) x answer.0))
+    (lower.calls (terminals_of t) c d g (event.Act x) before.Nothing answer) fine
 
-pub asks_are_seen : AsksAreSeen
-asks_are_seen t es k c d g i sees answer =
-    asks_seen t es k c g sees d i (calls_are_runs (terminals_of t) c d g (event.Ask i) before.Nothing answer (answer_here t i k.state))
+pub asks_are_seen : Lower → AsksAreSeen
+asks_are_seen lower t es k c d g i sees answer =
+    asks_seen lower t es k c g sees d i (lower.calls (terminals_of t) c d g (event.Ask i) before.Nothing answer (answer_here t i k.state))
 
-pub tokens_are_ill : TokensAreIll
-tokens_are_ill t es k c d g i why at sees answer fault =
-    let none : g.asks ≡ [] = no_asks t es k c g sees (token_awaited (move (terminals_of t) c) i answer.0) in
-    let run = on t es k c g sees (Passed i ∷ []) (Passes i ∷ []) d (passing i g) (calls_are_runs (terminals_of t) c d g (event.Token i) before.Nothing answer) in
-    is_ill t es k c g sees (es ++ Passed i ∷ []) d (passing i g) (Passes i) run tt (plain t es k c g sees none) why at fault (token_answered t es k c g sees i)
+pub tokens_are_ill : Lower → TokensAreIll
+tokens_are_ill lower t es k c d g i why at sees answer fault =
+    let none : g.asks ≡ [] = no_asks lower t es k c g sees (token_awaited (move (terminals_of t) c) i answer.0) in
+    let run = on lower t es k c g sees (Passed i ∷ []) (Passes i ∷ []) d (passing i g) (lower.calls (terminals_of t) c d g (event.Token i) before.Nothing answer) in
+    is_ill lower t es k c g sees (es ++ Passed i ∷ []) d (passing i g) (Passes i) run tt (plain lower t es k c g sees none) why at fault (token_answered lower t es k c g sees i)
 
-pub actions_are_ill : ActionsAreIll
-actions_are_ill t es k c d g x why at sees answer fault =
-    let none : g.asks ≡ [] = no_asks t es k c g sees (action_awaited (move (terminals_of t) c) x answer.0) in
-    let run = on t es k c g sees (Due x ∷ []) (Acts x ∷ []) d (acting x g) (calls_are_runs (terminals_of t) c d g (event.Act x) before.Nothing answer) in
-    is_ill t es k c g sees (es ++ Due x ∷ []) d (acting x g) (Acts x) run tt (plain t es k c g sees none) why at fault (action_answered t es k c g sees x)
+pub actions_are_ill : Lower → ActionsAreIll
+actions_are_ill lower t es k c d g x why at sees answer fault =
+    let none : g.asks ≡ [] = no_asks lower t es k c g sees (action_awaited (move (terminals_of t) c) x answer.0) in
+    let run = on lower t es k c g sees (Due x ∷ []) (Acts x ∷ []) d (acting x g) (lower.calls (terminals_of t) c d g (event.Act x) before.Nothing answer) in
+    is_ill lower t es k c g sees (es ++ Due x ∷ []) d (acting x g) (Acts x) run tt (plain lower t es k c g sees none) why at fault (action_answered lower t es k c g sees x)
 
-pub end_is_bound : RunsDerive → EndIsBound
-end_is_bound derive t es k c d g sees answer =
-    let end : move (terminals_of t) c ≡ Ends = (calls_are_runs (terminals_of t) c d g event.Done before.Nothing answer).0 in
-    let found = ends_bound t es k c g sees derive (no_asks t es k c g sees (λ h. subst MayOpen end h)) end in
+pub end_is_bound : Lower → EndIsBound
+end_is_bound lower t es k c d g sees answer =
+    let end : move (terminals_of t) c ≡ Ends = (lower.calls (terminals_of t) c d g event.Done before.Nothing answer).0 in
+    let found = ends_bound lower t es k c g sees (no_asks lower t es k c g sees (λ h. subst MayOpen end h)) end in
     (g.inner.children, found.0, found.1, found.2)
 
-pub trees_are_bound : RunsDerive → TreesAreBound
-trees_are_bound derive t es k c d g tree j sees answer derives same =
-    let end : move (terminals_of t) c ≡ Ends = (calls_are_runs (terminals_of t) c d g event.Done before.Nothing answer).0 in
-    let made = all_steps_are_made (terminals_of t) tree j es [] sees.steps c g derives (same ∙ sym (append-nil es)) sees.runs end in
-    let found = ends_bound t es k c g sees derive (no_asks t es k c g sees (λ h. subst MayOpen end h)) end in
+pub trees_are_bound : Lower → TreesAreBound
+trees_are_bound lower t es k c d g tree j sees answer derives same =
+    let end : move (terminals_of t) c ≡ Ends = (lower.calls (terminals_of t) c d g event.Done before.Nothing answer).0 in
+    let made = lower.made (terminals_of t) tree j es [] sees.steps c g derives (same ∙ sym (append-nil es)) sees.runs end in
+    let found = ends_bound lower t es k c g sees (no_asks lower t es k c g sees (λ h. subst MayOpen end h)) end in
     subst (λ z. IsWellFormed t z × (k.state ≡ unclosed (bound t z))) made.2 (found.0, found.2)
