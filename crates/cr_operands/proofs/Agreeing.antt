@@ -1,15 +1,11 @@
 -- That initialisers over the types and members that are kept are those that binding tells.
-use Rattle.std.proofs.Common.{◌≡◌, ℕ, ◌<◌, ◌+◌, zero, suc, Bool, true, false, cond, eqb, ◌==◌, ◌&&◌, not, is_some, if◌then◌else◌, Option, Some, None, Ok, Err, List, [], ◌∷◌, map, filter, length, slice_get, nat_lt, refl, sym, ap, subst, ◌∙◌, arith}
-use Rattle.std.specs.Prelude.{Result, option_map, option_and_then, unwrap_or}
-use Rattle.std.specs.Option.{option_map_or}
-use Rattle.std.specs.List.{find as first_of_list}
-use Rattle.std.proofs.lemmas.Bool.{eqb-true}
+use Rattle.std.proofs.Common.{◌≡◌, ℕ, ◌<◌, ◌+◌, zero, suc, eqb, ◌==◌, is_some, if◌then◌else◌, Option, Some, None, Ok, Err, List, [], ◌∷◌, map, length, slice_get, get_or, nat_lt, refl, sym, ap, subst, ◌∙◌, arith}
+use Rattle.std.specs.Prelude.{Result, option_map, option_and_then}
 use Rattle.std.proofs.lemmas.Bool.Decides.{nat_tests}
 use Rattle.std.proofs.lemmas.List.{length-map}
 use Rattle.std.proofs.lemmas.Option.{slice_get-get_or}
 use Rattle.cr_base.specs.declared.token.Name.{Name}
 use Rattle.cr_base.specs.declared.cause.IllCause.{IllCause}
-use Rattle.cr_types.specs.declared.Record.{Record as TypeRecord}
 use Rattle.cr_types.specs.Types.{CType, Void, Arith, Mixed, Ptr, Arr, Fun, Rec, Table, type_at}
 use Rattle.cr_typing.specs.declared.fault.TypeFault.{TypeFault}
 use Rattle.cr_typing.specs.declared.initialisers.ItemKind.{ItemKind}
@@ -24,15 +20,13 @@ use Rattle.cr_typing.specs.Initialisers as typing
 use Rattle.cr_typing.specs.Members.{Members, Listed, listed, is_empty, data_at}
 use Rattle.cr_typing.specs.Members as members
 use Rattle.cr_binding.specs.Source.{Source}
-use Rattle.cr_binding.specs.State.{Record, Member, Selects, Within, State}
+use Rattle.cr_binding.specs.State.{Member, Selects, Within, State}
 use Rattle.cr_binding.specs.Declaring.{used}
-use Rattle.cr_binding.specs.RecordMembers.{written_in, members_of, is_complete, is_named, member_in, or_no_member}
+use Rattle.cr_binding.specs.RecordMembers.{member_in}
 use Rattle.cr_binding.specs.Initialising as binding
-use Rattle.cr_records.specs.declared.rows.RecordRow.{RecordRow}
-use Rattle.cr_records.specs.Kept.{RecordTable, IsKept, IsOf, no_member, placed_at, is_ended, is_written_in}
-use Rattle.cr_records.specs.Records.{with_records, record_of, placed_in, AreSpelled, cause_of}
-use Rattle.cr_records.proofs.Seen.{map_map, written_seen, complete_seen}
-use Rattle.cr_records.proofs.Selecting.{AreSelected, members_select, data_is}
+use Rattle.cr_records.specs.Kept.{RecordTable, IsKept, IsOf, no_member, placed_at}
+use Rattle.cr_records.specs.Laws.{IsNamedIn, AreTold, MembersAreTold}
+use Rattle.cr_records.specs.Records.{with_records, placed_in, AreSpelled, cause_of}
 use Rattle.cr_operands.specs.declared.fault.OperandFault.TheVariants as fault
 use Rattle.cr_operands.specs.declared.target.Target.TheVariants as aim
 use Rattle.cr_operands.specs.Operands.{item_of, seen_target, designates, may_select, Finds, Refuses}
@@ -53,69 +47,23 @@ same_at t m (n ∷ ks) (c ∷ cs) (suc k) h = (let e : map (type_of_member t m) 
 same_length : (t : Table) (m : Members) (ks : List MemberNo) (cs : List CType) → map (type_of_member t m) ks ≡ map Some cs → length ks ≡ length cs
 same_length t m ks cs h = sym (length-map ks (type_of_member t m)) ∙ ap length h ∙ length-map cs Some
 
-same_unions : (rs : List TypeRecord) (ws : List RecordRow) (r : ℕ) → map {A = TypeRecord} (λ x. x.union) rs ≡ map {A = RecordRow} (λ x. x.is_union) ws
-    → unwrap_or (option_map (λ (x : TypeRecord). x.union) (slice_get rs r)) false ≡ option_map_or (λ (x : Record). x.is_union) (slice_get (map record_of ws) r) false
-same_unions [] [] r h = refl
-same_unions [] (w ∷ ws) r h = cc
-same_unions (x ∷ rs) [] r h = cc
-same_unions (x ∷ rs) (w ∷ ws) zero h = (let e : x.union ≡ w.is_union = cc in e)
-same_unions (x ∷ rs) (w ∷ ws) (suc r) h =
-    (let e : map {A = TypeRecord} (λ z. z.union) rs ≡ map {A = RecordRow} (λ z. z.is_union) ws = cc in same_unions rs ws r e)
-
-none_of : (ks : List MemberNo) → is_empty ks ≡ true → ks ≡ []
-none_of [] h = refl
-none_of (k ∷ ks) h = cc
-
-found_passes : {A : Type 0} (p q : A → Bool) (xs : List A) (y : A) → first_of_list p (filter q xs) ≡ Some y → q y ≡ true
-found_passes p q [] y h = cc
-found_passes {A} p q (x ∷ xs) y h = by (q x) refl (found_passes p q xs y) h
-  where
-    here : (b : Bool) → q x ≡ true → (first_of_list p (filter q xs) ≡ Some y → q y ≡ true) → cond b (Some x) (first_of_list p (filter q xs)) ≡ Some y → q y ≡ true
-    here true e later g = (let same : x ≡ y = cc in subst (λ z. q z ≡ true) same e)
-    here false e later g = later g
-
-    by : (b : Bool) → q x ≡ b → (first_of_list p (filter q xs) ≡ Some y → q y ≡ true) → first_of_list p (cond b (x ∷ filter q xs) (filter q xs)) ≡ Some y → q y ≡ true
-    by true e later g = here (p x) e later g
-    by false e later g = later g
-
 -- ---- the members of records
 
-module _ (t : Table) (x : RecordTable) (s : State) (kept : IsKept x) (of : IsOf t x) where
+module _ (law : MembersAreTold) (t : Table) (x : RecordTable) (s : State) (kept : IsKept x) (of : IsOf t x) where
   abbrev pub m : Members
   m = x.typing
 
   abbrev pub seen : State
   seen = with_records t x s
 
-  types_listed : (r : ℕ) → map (type_of_member t m) (listed m r).declared ≡ map Some (written_in seen r)
-  types_listed r =
-      let type_of : Placed → CType = λ p. type_at t p.member.ty in
-      sym (map_map (option_map type_of) (λ (k : MemberNo). slice_get m.all k.0) (listed m r).declared)
-      ∙ ap (map (option_map type_of)) (kept.lists r).declared
-      ∙ map_map (option_map type_of) Some (filter (is_written_in r) m.all)
-      ∙ sym (map_map Some type_of (filter (is_written_in r) m.all))
-      ∙ ap (map Some) (sym (written_seen t x s r))
-
-  complete_by : (r : ℕ) (b e : Bool) → is_empty (listed m r).declared ≡ e
-      → map (type_of_member t m) (if (b && not e) then (listed m r).declared else []) ≡ map Some (if b then written_in seen r else [])
-  complete_by r true true none = sym (ap (map (type_of_member t m)) (none_of (listed m r).declared none)) ∙ types_listed r
-  complete_by r true false some = types_listed r
-  complete_by r false e is = refl
-
-  complete_both : (r : ℕ) → map (type_of_member t m) (typing.complete (listed m r)) ≡ map Some (binding.complete seen r)
-  complete_both r =
-      ap (λ b. map (type_of_member t m) (if b then (listed m r).declared else [])) (kept.lists r).ended
-      ∙ complete_by r (is_ended x.ended r) (is_empty (listed m r).declared) refl
-      ∙ ap (λ b. map Some (if b then written_in seen r else [])) (sym (complete_seen t x s r))
-
-  unions_both : (r : ℕ) → typing.is_union t r ≡ binding.is_union seen r
-  unions_both r = same_unions t.records x.records r of.unions
+  abbrev told : AreTold t x s
+  told = law t x s kept of
 
   count_both : (r : ℕ) → length (typing.complete (listed m r)) ≡ length (binding.complete seen r)
-  count_both r = same_length t m (typing.complete (listed m r)) (binding.complete seen r) (complete_both r)
+  count_both r = same_length t m (typing.complete (listed m r)) (binding.complete seen r) (told.written r)
 
   part_both : (k : ℕ) (c : CType) → typing.part_at t m k c ≡ binding.part_at seen k c
-  part_both k (Rec r) = same_at t m (typing.complete (listed m r)) (binding.complete seen r) k (complete_both r)
+  part_both k (Rec r) = same_at t m (typing.complete (listed m r)) (binding.complete seen r) k (told.written r)
   part_both k (Arr c) = refl
   part_both k Void = refl
   part_both k Arith = refl
@@ -124,7 +72,7 @@ module _ (t : Table) (x : RecordTable) (s : State) (kept : IsKept x) (of : IsOf 
   part_both k (Fun c) = refl
 
   next_both : (k : ℕ) (c : CType) → typing.next_place t m k c ≡ binding.next_place seen k c
-  next_both k (Rec r) = λ j. if unions_both r j then None else (if nat_lt (k + 1) (count_both r j) then Some (k + 1) else None)
+  next_both k (Rec r) = λ j. if told.unions r j then None else (if nat_lt (k + 1) (count_both r j) then Some (k + 1) else None)
   next_both k (Arr c) = refl
   next_both k Void = refl
   next_both k Arith = refl
@@ -174,32 +122,18 @@ module _ (t : Table) (x : RecordTable) (s : State) (kept : IsKept x) (of : IsOf 
   -- ---- designators
 
   module _ (source : Source) (spelled : AreSpelled source x) where
-    holder_is : (r : ℕ) (name : Name) (n : Member) → member_in source seen r name ≡ Ok n → n.holder ≡ r
-    holder_is r name n h = by (is_complete seen r) h
-      where
-        found : (o : Option Member) → o ≡ first_of_list (is_named source name) (members_of seen r) → or_no_member o ≡ Ok n → n.holder ≡ r
-        found None e g = cc
-        found (Some y) e g =
-            let same : y ≡ n = cc in
-            eqb-true n.holder r (found_passes (is_named source name) (λ (z : Member). z.holder == r) seen.members n (sym e ∙ ap Some same))
-
-        by : (b : Bool) → or_no_member (if b then first_of_list (is_named source name) (members_of seen r) else None) ≡ Ok n → n.holder ≡ r
-        by true g = found (first_of_list (is_named source name) (members_of seen r)) refl g
-        by false g = cc
-
     -- what both name: a member of the object, or the same cause
     abbrev pub AreDotted : Option CType → Result Member IllCause → Result MemberNo TypeFault → Type 0
     AreDotted c r (Ok k) = (h : ℕ) × (c ≡ Some (Rec h)) × (r ≡ Ok (placed_in t h (placed_at m k)))
     AreDotted c r (Err f) = r ≡ Err (cause_of f)
 
-    dotted_in : (r : ℕ) (name : Name) (o : Result MemberNo TypeFault) → AreSelected t m (member_in source seen r name) o → AreDotted (Some (Rec r)) (member_in source seen r name) o
-    dotted_in r name (Ok k) h =
-        (r, refl, h.1 ∙ ap (λ n. Ok (placed_in t n (placed_at m k))) (holder_is r name (placed_in t h.0 (placed_at m k)) h.1))
+    dotted_in : (r : ℕ) (name : Name) (o : Result MemberNo TypeFault) → IsNamedIn t m r (member_in source seen r name) o → AreDotted (Some (Rec r)) (member_in source seen r name) o
+    dotted_in r name (Ok k) h = (r, refl, h)
     dotted_in r name (Err f) h = h
 
     pub dotted_both : (name : Name) (c : Option CType) → AreDotted c (binding.dotted source seen name c) (typing.dotted m name c)
     dotted_both name None = refl
-    dotted_both name (Some (Rec r)) = dotted_in r name (members.member_in (listed m r) name) (members_select t x s source kept spelled r name)
+    dotted_both name (Some (Rec r)) = dotted_in r name (members.member_in (listed m r) name) (told.named source spelled r name)
     dotted_both name (Some (Arr c)) = refl
     dotted_both name (Some Void) = refl
     dotted_both name (Some Arith) = refl
@@ -233,6 +167,15 @@ module _ (t : Table) (x : RecordTable) (s : State) (kept : IsKept x) (of : IsOf 
 
 -- ---- a designator with a name
 
+-- the data of a member by its number
+data_is : (m : Members) (k : MemberNo) (d : MemberData) → data_at m k ≡ Some d → (placed_at m k).member ≡ d
+data_is m k d h = by m.all k.0 h
+  where
+    by : (ps : List Placed) (i : ℕ) → option_map (λ (p : Placed). p.member) (slice_get ps i) ≡ Some d → (get_or ps i no_member).member ≡ d
+    by [] i e = cc
+    by (p ∷ ps) zero e = cc
+    by (p ∷ ps) (suc i) e = by ps i e
+
 named_is : (r : Result MemberNo TypeFault) (k : MemberNo) → Ok (Some k) ≡ typing.as_named r → r ≡ Ok k
 named_is (Ok n) k e = (let same : k ≡ n = cc in ap Ok (sym same))
 named_is (Err f) k e = cc
@@ -245,7 +188,7 @@ pub never_none : (r : Result MemberNo TypeFault) → Ok None ≡ typing.as_named
 never_none (Ok n) e = cc
 never_none (Err f) e = cc
 
-module _ (t : Table) (x : RecordTable) (kept : IsKept x) (of : IsOf t x) (old : InitList) (name : Name) where
+module _ (law : MembersAreTold) (t : Table) (x : RecordTable) (kept : IsKept x) (of : IsOf t x) (old : InitList) (name : Name) where
   abbrev b : Braces
   b = braces_of t old
 
@@ -257,10 +200,10 @@ module _ (t : Table) (x : RecordTable) (kept : IsKept x) (of : IsOf t x) (old : 
       → Finds x name designates (may_select (Some d.token)) (seen_target t x (aim.Within old)) (seen_target t x (aim.Within new))
   list_designates new k d answer made there at source i s named spelled =
       let s' : State = record s { target = Within b } in
-      let both : AreDotted t x s' kept of source spelled (starts_from b) (binding.dotted source (with_records t x s') name (starts_from b)) (Ok k) =
-      subst (AreDotted t x s' kept of source spelled (starts_from b) (binding.dotted source (with_records t x s') name (starts_from b))) (named_is r k answer) (dotted_both t x s' kept of source spelled name (starts_from b)) in
+      let both : AreDotted law t x s' kept of source spelled (starts_from b) (binding.dotted source (with_records t x s') name (starts_from b)) (Ok k) =
+      subst (AreDotted law t x s' kept of source spelled (starts_from b) (binding.dotted source (with_records t x s') name (starts_from b))) (named_is r k answer) (dotted_both law t x s' kept of source spelled name (starts_from b)) in
       let mem : Member = placed_in t both.0 (placed_at x.typing k) in
-      let list : braces_of t new ≡ binding.designated (with_records t x s') b mem = made ∙ list_same t x s' kept of b both.0 k there both.1 in
+      let list : braces_of t new ≡ binding.designated (with_records t x s') b mem = made ∙ list_same law t x s' kept of b both.0 k there both.1 in
       let token : mem.token ≡ d.token = ap (λ (z : MemberData). z.token) (data_is x.typing k d at) in
       ap (λ n. binding.designating (binding.dotted source (with_records t x s') n (starts_from b)) b i (with_records t x s')) named
       ∙ ap (λ z. binding.designating z b i (with_records t x s')) both.2
@@ -271,6 +214,6 @@ module _ (t : Table) (x : RecordTable) (kept : IsKept x) (of : IsOf t x) (old : 
   list_refuses f c answer is source i s named spelled =
       let s' : State = record s { target = Within b } in
       let both : binding.dotted source (with_records t x s') name (starts_from b) ≡ Err (cause_of f) =
-      subst (AreDotted t x s' kept of source spelled (starts_from b) (binding.dotted source (with_records t x s') name (starts_from b))) (refused_is r f answer) (dotted_both t x s' kept of source spelled name (starts_from b)) in
+      subst (AreDotted law t x s' kept of source spelled (starts_from b) (binding.dotted source (with_records t x s') name (starts_from b))) (refused_is r f answer) (dotted_both law t x s' kept of source spelled name (starts_from b)) in
       ap (λ n. binding.designating (binding.dotted source (with_records t x s') n (starts_from b)) b i (with_records t x s')) named
       ∙ ap (λ z. binding.designating z b i (with_records t x s')) (both ∙ ap Err (sym is))

@@ -29,7 +29,7 @@ use Rattle.cr_operands.specs.declared.values.Row.{Row}
 use Rattle.cr_operands.specs.Kept.{chain, IsLast, AreLast, is_index, is_postfix, form_of}
 use Rattle.cr_operands.specs.Laws.{OperandsStay, GrowthsFollow, TargetsStay}
 use Rattle.cr_operands.specs.Operands.{IsMark, values_at, values_of, target_of, with_operands, AreGiven, IsTarget, Numbers, IsHeld, Grows, StaysOver, Does, Same, with_put, with_values, changing, operated_as, seen, seen_target, selects, may_select, designates, Finds, Refuses}
-use Rattle.cr_records.proofs.Growing.{records_stay}
+use Rattle.cr_records.specs.Laws.{RecordsStay}
 use Rattle.cr_operands.proofs.Marks.{grown, top_row}
 
 -- all numbers are the table's
@@ -259,9 +259,9 @@ same_stays t u o q keeps held is = subst (Same t o u) (sym is) (operands_stay t 
 pub grows_stays : (t u : Table) (o q : Operands) → Keeps t u → IsHeld t o → q ≡ o → Grows t o u q
 grows_stays t u o q keeps held is = subst (Grows t o u) (sym is) (operands_stay t u o keeps held).0
 
-pub stays_over : (t u : Table) (x : RecordTable) → Keeps t u → u.records ≡ t.records → IsKept x → IsOf t x → StaysOver t x u
-stays_over t u x keeps records kept of =
-    let stay = records_stay t u x keeps records kept of in
+pub stays_over : RecordsStay → (t u : Table) (x : RecordTable) → Keeps t u → u.records ≡ t.records → IsKept x → IsOf t x → StaysOver t x u
+stays_over law t u x keeps records kept of =
+    let stay = law t u x keeps records kept of in
     record { records = records; of = stay.0; same = stay.1 }
 
 -- operands that are put back after a change

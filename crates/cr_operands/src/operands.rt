@@ -22,7 +22,7 @@ use crate::target::Target;
 use crate::values::{Row, Values};
 use cr_base::{Name, OutOfMemory, TokKind};
 use cr_grammar::NonTerm;
-use cr_records::Records;
+use cr_records::{Records, records_stay};
 use cr_types::{Ty, TypeNo, Types};
 use cr_typing::{ItemKind, Op};
 use std::alloc::Global;
@@ -185,6 +185,7 @@ impl Operands {
     {
         match self.last_two() {
             Some((left, right)) => {
+                records_stay();
                 let ty = records.typing().binary(types, of, left.ty, right.ty)?;
                 self.put(ty, left.rest)
             }
@@ -205,6 +206,7 @@ impl Operands {
     {
         match self.last() {
             Some(row) => {
+                records_stay();
                 let ty = records.typing().unary(types, of, row.ty)?;
                 self.put(ty, row.rest)
             }

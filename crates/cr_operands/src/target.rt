@@ -11,7 +11,7 @@ ghost use Rattle.cr_operands.specs.Operands.{target_of, IsTarget, item_of, seen_
 
 use crate::fault::OperandFault;
 use cr_base::{IllCause, Name};
-use cr_records::Records;
+use cr_records::{Records, members_are_told};
 use cr_types::{TypeNo, Types};
 use cr_typing::{Desig, InitList, ItemKind, MemberNo, TypeFault, Typing};
 
@@ -83,6 +83,7 @@ fn designate(
     ensures err { OnErr result (list.new ≡ list.old) }
     ensures held { AreHeld types.now list.new }
 {
+    members_are_told();
     match list.designate(types, records.typing(), Desig::Dot(name)) {
         Ok(Some(m)) => Ok(Some(records.typing().member(m).token)),
         Ok(None) => Ok(None),
@@ -114,6 +115,7 @@ impl Target {
         match self {
             Target::Whole(_) => {}
             Target::Within(list) => {
+                members_are_told();
                 let _ = take(list, types, records.typing(), of);
             }
         }
@@ -130,6 +132,7 @@ impl Target {
         match self {
             Target::Whole(ty) => Some(*ty),
             Target::Within(list) => {
+                members_are_told();
                 let mut list = list.copy();
                 take(&mut list, types, records.typing(), ItemKind::Braces)
             }
@@ -145,6 +148,7 @@ impl Target {
             ≡ Within (list_for now (object_of now (target_of types.now self.now))) }
         ensures held { IsTarget types.now result }
     {
+        members_are_told();
         let object = self.object(types, records);
         Target::Within(InitList::new(types, records.typing(), object))
     }

@@ -2,8 +2,9 @@ mod Adding
 mod Announcing
 mod Calls
 mod Ending
-pub mod Growing
+mod Growing
 mod Same
-pub mod Seen
-pub mod Selecting
+mod Seen
+mod Selecting
+mod Telling
 mod Writing

@@ -31,4 +31,4 @@ returns-in_ok-ty-in-Some-clause-grows c =
 
 pub returns-in_ok-ty-in-Some-clause-over : goal.returns-in_ok-ty-in-Some-clause-over
 returns-in_ok-ty-in-Some-clause-over c =
-    stays_over c.args.types.now c.binary.new.types c.args.records.now c.binary.ensures.keeps c.binary.ensures.records c.typing.ensures.kept c.requires.of
+    stays_over c.records_stay.ensures c.args.types.now c.binary.new.types c.args.records.now c.binary.ensures.keeps c.binary.ensures.records c.typing.ensures.kept c.requires.of

@@ -13,5 +13,5 @@ returns-in-Within-clause-ok c = λ s.
     ap Within
     (c.take.ensures.ok
     ∙ ap (λ m. typing.with_item c.args.types.now m (braces_of c.args.types.now c.in-Within.list) c.args.of) c.typing.ensures.typing
-    ∙ item_both c.args.types.now c.args.records.now s c.typing.ensures.kept c.requires.of c.args.of (braces_of c.args.types.now c.in-Within.list))
+    ∙ item_both c.members_are_told.ensures c.args.types.now c.args.records.now s c.typing.ensures.kept c.requires.of c.args.of (braces_of c.args.types.now c.in-Within.list))
     ∙ ap (λ a. item_within (with_records c.args.types.now c.args.records.now s) (item_of c.args.types.now c.args.of) (target_of c.args.types.now a)) (sym c.in-Within.is)

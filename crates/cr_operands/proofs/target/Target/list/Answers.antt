@@ -14,5 +14,5 @@ returns-clause-ok c = λ s.
     ap Within
     (c.new.ensures.opened
     ∙ ap (λ m. opened o (typing.first_place m o)) c.typing.ensures.typing
-    ∙ ap (opened o) (first_both c.args.types.now c.args.records.now s c.typing.ensures.kept c.requires.of o)
+    ∙ ap (opened o) (first_both c.members_are_told.ensures c.args.types.now c.args.records.now s c.typing.ensures.kept c.requires.of o)
     ∙ ap (list_for (with_records c.args.types.now c.args.records.now s)) (c.object-object.ensures.meant s))

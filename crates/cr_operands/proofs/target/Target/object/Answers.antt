@@ -12,5 +12,5 @@ returns-in-Within-clause-meant c = λ s.
     c.take.ensures.object
     ∙ ap (λ l. (typing.taken c.args.types.now c.typing.result.now (braces_of c.args.types.now l)).object) c.copy-list.ensures
     ∙ ap (λ m. (typing.taken c.args.types.now m (braces_of c.args.types.now c.in-Within.list)).object) c.typing.ensures.typing
-    ∙ ap (λ (z : Taken). z.object) (taken_both c.args.types.now c.args.records.now s c.typing.ensures.kept c.requires.of (braces_of c.args.types.now c.in-Within.list))
+    ∙ ap (λ (z : Taken). z.object) (taken_both c.members_are_told.ensures c.args.types.now c.args.records.now s c.typing.ensures.kept c.requires.of (braces_of c.args.types.now c.in-Within.list))
     ∙ ap (λ a. object_of (with_records c.args.types.now c.args.records.now s) (target_of c.args.types.now a)) (sym c.in-Within.is)
