@@ -1,3 +1,4 @@
+mod Accepting
 mod Candidates
 mod Classes
 mod Declared
