@@ -14,7 +14,7 @@ use Rattle.cr_ll.specs.declared.guards.Choice.TheVariants.{Nothing, Takes, Waits
 use Rattle.cr_ll.specs.Guards.{token_at, meets, verdict, chosen, choice}
 use Rattle.cr_ll.specs.Derivation.{Passed, Due, Asked}
 use Rattle.cr_ll.specs.Machine.{Config, Move, Gives, Opens, AsksAt, Ends, Faults, body_at, move_by, pass, move_on, move, replied, stop, gives, opens, asks}
-use Rattle.cr_ll_law.specs.Weights.{empties, most, due, closed, left_on, left, EventsFall, PlacesCountTokens}
+use Rattle.cr_ll_law.specs.EventsLeft.{empties, most, due, closed, left_on, left, EventsFall, PlacesCountTokens}
 use Rattle.cr_ll.proofs.Complete.{body_first, rows_next}
 use Rattle.cr_ll.proofs.Weight.{and_left, and_right, no_right}
 
