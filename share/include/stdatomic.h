@@ -1,5 +1,5 @@
-/* C11 7.17: atomics, to read programs by and not to compile them: each macro takes the arguments of C11's function and has its type,
-   but as its value what the object holds afterwards. */
+/* C11 7.17: atomics, to read programs by and not to compile them: each macro takes the arguments of C11's function and has its
+   type, but as its value what the object holds afterwards. */
 #ifndef __CRENAME_STDATOMIC_H
 #define __CRENAME_STDATOMIC_H
 
