@@ -1,4 +1,4 @@
-/* C11 7.7, 5.2.4.2.2: characteristics of floating types, of x86-64 Linux: float and double of IEC 60559, long double of 80 bits. */
+/* C11 7.7, 5.2.4.2.2: characteristics of floating types, of x86-64 Linux: of 32, 64 and 80 bits. */
 #ifndef __CRENAME_FLOAT_H
 #define __CRENAME_FLOAT_H
 
