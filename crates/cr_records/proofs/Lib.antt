@@ -4,6 +4,6 @@ mod Calls
 mod Ending
 mod Growing
 mod Same
-mod Seen
-mod Selecting
+pub mod Seen
+pub mod Selecting
 mod Writing
