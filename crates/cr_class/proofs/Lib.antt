@@ -1,5 +1,5 @@
-mod Accepting
-mod Candidates
+pub mod Accepting
+pub mod Candidates
 mod Classes
 mod Declared
 mod Given
