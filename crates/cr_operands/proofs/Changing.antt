@@ -18,7 +18,7 @@ use Rattle.cr_binding.specs.Declaring.{used}
 use Rattle.cr_binding.specs.Expressions.{on_two, on_one, operand, operated, postfix, selecting, selection}
 use Rattle.cr_binding.specs.RecordMembers.{select}
 use Rattle.cr_records.specs.declared.rows.Selected.{Selected}
-use Rattle.cr_records.specs.Kept.{RecordTable}
+use Rattle.cr_records.specs.Kept.{RecordTable, IsKept, IsOf}
 use Rattle.cr_records.specs.Records.{with_records, AreSpelled, IsSelected}
 use Rattle.cr_operands.specs.declared.fault.OperandFault.{OperandFault}
 use Rattle.cr_operands.specs.declared.fault.OperandFault.TheVariants as fault
@@ -26,9 +26,10 @@ use Rattle.cr_operands.specs.declared.operands.Operands.{Operands}
 use Rattle.cr_operands.specs.declared.target.Target.{Target}
 use Rattle.cr_operands.specs.declared.target.Target.TheVariants as aim
 use Rattle.cr_operands.specs.declared.values.Row.{Row}
-use Rattle.cr_operands.specs.Kept.{chain, IsLast, AreLast, AreFew, is_index, is_postfix, form_of}
+use Rattle.cr_operands.specs.Kept.{chain, IsLast, AreLast, is_index, is_postfix, form_of}
 use Rattle.cr_operands.specs.Laws.{OperandsStay, GrowthsFollow, TargetsStay}
-use Rattle.cr_operands.specs.Operands.{IsMark, values_at, values_of, target_of, with_operands, AreGiven, IsTarget, Numbers, IsHeld, Grows, Does, Same, with_put, with_cut, with_values, changing, operated_as, seen, seen_target, selects, may_select, designates, Finds, Refuses}
+use Rattle.cr_operands.specs.Operands.{IsMark, values_at, values_of, target_of, with_operands, AreGiven, IsTarget, Numbers, IsHeld, Grows, StaysOver, Does, Same, with_put, with_values, changing, operated_as, seen, seen_target, selects, may_select, designates, Finds, Refuses}
+use Rattle.cr_records.proofs.Growing.{records_stay}
 use Rattle.cr_operands.proofs.Marks.{grown, top_row}
 
 -- all numbers are the table's
@@ -95,10 +96,9 @@ module _ (t u : Table) (keeps : Keeps t u) where
   values_stay o n h = types_stay (chain n o.values.rows) (chain_given t o.values.rows n h.values)
 
 pub operands_stay : OperandsStay
-operands_stay t u o keeps same h = (
+operands_stay t u o keeps h = (
   record {
     types = keeps;
-    records = same;
     held = held_stays t u keeps o h;
     marks = λ n m. (m, values_stay t u keeps o n h);
   },
@@ -125,24 +125,19 @@ pub growths_follow : GrowthsFollow
 growths_follow t u v o p q g h =
     record {
       types = keeps_both t u v g.types h.types;
-      records = h.records ∙ g.records;
       held = h.held;
       marks = λ n m. (let a = g.marks n m in let b = h.marks n a.0 in (b.0, b.1 ∙ a.1));
     }
 
-pub grows_itself : (t : Table) (o : Operands) → IsHeld t o → Grows t o t o
-grows_itself t o h = record { types = keeps_itself t; records = refl; held = h; marks = λ n m. (m, refl) }
-
 -- ---- an operand is put above those of a mark
 
 module _ (t u : Table) (o q : Operands) (r : Row) (held : IsHeld t o) (keeps : Keeps t u) (is : q ≡ with_put r o) where
-  pub put_grows : u.records ≡ t.records → IsMark o r.rest → IsTypeNo u r.ty → Grows t o u q
-  put_grows same low given =
+  pub put_grows : IsMark o r.rest → IsTypeNo u r.ty → Grows t o u q
+  put_grows low given =
       let before = held_stays t u keeps o held in
       subst (Grows t o u) (sym is)
       record {
         types = keeps;
-        records = same;
         held = record { values = (given, before.values); target = before.target; arith = before.arith; text = before.text; mixed = before.mixed };
         marks = λ n m. (omega (arith, m), ap (map (type_at u)) (grown r o.values.rows n m) ∙ values_stay t u keeps o n held);
       }
@@ -154,21 +149,6 @@ module _ (t u : Table) (o q : Operands) (r : Row) (held : IsHeld t o) (keeps : K
         values = (ap (map (type_at u)) (top_row r o.values.rows) ∙ ap (λ l. type_at u r.ty ∷ l) (values_stay t u keeps o r.rest held) ∙ sym made) j;
         target = (target_stays t u keeps o.target held.target).1 j;
       })
-
--- ---- operands are those of a mark
-
-pub cut_grows : (t : Table) (o q : Operands) (n : ℕ) → IsHeld t o → q ≡ with_cut n o → Grows t o t q
-cut_grows t o q n h is =
-    subst (Grows t o t) (sym is)
-    record {
-      types = keeps_itself t;
-      records = refl;
-      held = record { values = h.values; target = h.target; arith = h.arith; text = h.text; mixed = h.mixed };
-      marks = λ k m. (m, refl);
-    }
-
-pub cut_does : (t : Table) (o q : Operands) (n : ℕ) (f : List CType → List CType) → q ≡ with_cut n o → f (values_of t o) ≡ values_at t o n → Does t o (changing f) t q
-cut_does t o q n f is made s = ap (λ z. with_operands t z s) is ∙ (λ j. record s { values = sym made j; target = target_of t o.target })
 
 -- ---- the last operands
 
@@ -189,21 +169,6 @@ module _ (t : Table) (o : Operands) where
   two_given l r held h =
       let all : AllGiven t (r.ty ∷ l.ty ∷ chain l.rest o.values.rows) = subst (AllGiven t) (h.0.0 ∙ ap (λ z. r.ty ∷ z) h.1.0) (chain_given t o.values.rows o.values.top held.values) in
       (all.1.0, all.0)
-
-  pub few_stay : (f : CType → CType → CType) → AreLast o.values None → on_two f (values_of t o) ≡ values_of t o
-  few_stay f h = by (chain o.values.top o.values.rows) h
-    where
-      by : (ns : List TypeNo) → AreFew ns → on_two f (map (type_at t) ns) ≡ map (type_at t) ns
-      by [] g = refl
-      by (n ∷ []) g = refl
-      by (n ∷ m ∷ ns) g = absurd g
-
-  pub none_stay : (f : CType → CType) → IsLast o.values None → on_one f (values_of t o) ≡ values_of t o
-  none_stay f h = ap (on_one f) (values_none h) ∙ sym (values_none h)
-
--- what changes nothing
-pub changes_nothing : (t u : Table) (o p : Operands) (f : List CType → List CType) → f (values_of t o) ≡ values_of t o → Same t o u p → Does t o (changing f) u p
-changes_nothing t u o p f made same s = same s ∙ (λ j. record (with_operands t o s) { values = sym made j })
 
 -- ---- a member that is selected takes the place of the last operand
 
@@ -274,8 +239,8 @@ module _ (t u : Table) (o q : Operands) (l r : Row) (ty : TypeNo) (f : CType →
       put_does t u o q (record { ty = ty; rest = l.rest }) held keeps is (on_two f)
       (ap (on_two f) (values_two t o l r last) ∙ ap (λ z. z ∷ values_at t o l.rest) (sym meant))
 
-  pub two_grows : u.records ≡ t.records → IsTypeNo u ty → Grows t o u q
-  two_grows same given = put_grows t u o q (record { ty = ty; rest = l.rest }) held keeps is same last.1.1 given
+  pub two_grows : IsTypeNo u ty → Grows t o u q
+  two_grows given = put_grows t u o q (record { ty = ty; rest = l.rest }) held keeps is last.1.1 given
 
 module _ (t u : Table) (o q : Operands) (r : Row) (ty : TypeNo) (f : CType → CType) (held : IsHeld t o) (keeps : Keeps t u)
     (last : IsLast o.values (Some r)) (meant : type_at u ty ≡ f (type_at t r.ty)) (is : q ≡ with_put (record { ty = ty; rest = r.rest }) o) where
@@ -284,15 +249,20 @@ module _ (t u : Table) (o q : Operands) (r : Row) (ty : TypeNo) (f : CType → C
       put_does t u o q (record { ty = ty; rest = r.rest }) held keeps is (on_one f)
       (ap (on_one f) (values_last t o r last) ∙ ap (λ z. z ∷ values_at t o r.rest) (sym meant))
 
-  pub one_grows : u.records ≡ t.records → IsTypeNo u ty → Grows t o u q
-  one_grows same given = put_grows t u o q (record { ty = ty; rest = r.rest }) held keeps is same last.1 given
+  pub one_grows : IsTypeNo u ty → Grows t o u q
+  one_grows given = put_grows t u o q (record { ty = ty; rest = r.rest }) held keeps is last.1 given
 
 -- operands that stay as types grow
-pub same_stays : (t u : Table) (o q : Operands) → Keeps t u → u.records ≡ t.records → IsHeld t o → q ≡ o → Same t o u q
-same_stays t u o q keeps same held is = subst (Same t o u) (sym is) (operands_stay t u o keeps same held).1
+pub same_stays : (t u : Table) (o q : Operands) → Keeps t u → IsHeld t o → q ≡ o → Same t o u q
+same_stays t u o q keeps held is = subst (Same t o u) (sym is) (operands_stay t u o keeps held).1
 
-pub grows_stays : (t u : Table) (o q : Operands) → Keeps t u → u.records ≡ t.records → IsHeld t o → q ≡ o → Grows t o u q
-grows_stays t u o q keeps same held is = subst (Grows t o u) (sym is) (operands_stay t u o keeps same held).0
+pub grows_stays : (t u : Table) (o q : Operands) → Keeps t u → IsHeld t o → q ≡ o → Grows t o u q
+grows_stays t u o q keeps held is = subst (Grows t o u) (sym is) (operands_stay t u o keeps held).0
+
+pub stays_over : (t u : Table) (x : RecordTable) → Keeps t u → u.records ≡ t.records → IsKept x → IsOf t x → StaysOver t x u
+stays_over t u x keeps records kept of =
+    let stay = records_stay t u x keeps records kept of in
+    record { records = records; of = stay.0; same = stay.1 }
 
 -- operands that are put back after a change
 pub restored : (t u : Table) (o p q r : Operands) (mark : ℕ) (f : List CType → List CType) → Does u q (with_values (values_at u q mark)) u r → q ≡ p → Does t o (changing f) u p

@@ -7,7 +7,7 @@ use Rattle.cr_operands.specs.Operands.{IsHeld, IsTarget, target_of, Grows, Same}
 
 -- As types are added the same operands are seen.
 abbrev pub OperandsStay : Type 0
-OperandsStay = (t u : Table) (o : Operands) → Keeps t u → u.records ≡ t.records → IsHeld t o → Grows t o u o × Same t o u o
+OperandsStay = (t u : Table) (o : Operands) → Keeps t u → IsHeld t o → Grows t o u o × Same t o u o
 
 -- What stays in two changes stays in both.
 abbrev pub GrowthsFollow : Type 0

@@ -13,7 +13,7 @@ use Rattle.cr_binding.specs.State.{Target, Whole, Within, Selects, State}
 use Rattle.cr_binding.specs.Declaring.{failed, used}
 use Rattle.cr_binding.specs.Expressions.{operand, on_two, on_one, first_type, second_type, postfix, operator_among, binary_operators, unary_operators, postfix_operators, is_offset}
 use Rattle.cr_binding.specs.Initialising.{Item, InBraces, Value, StringValue, item_within, designator}
-use Rattle.cr_records.specs.Kept.{RecordTable}
+use Rattle.cr_records.specs.Kept.{RecordTable, IsOf}
 use Rattle.cr_records.specs.Records.{with_records, AreSpelled}
 use Rattle.cr_operands.specs.declared.fault.OperandFault.{OperandFault}
 use Rattle.cr_operands.specs.declared.fault.OperandFault.TheVariants as fault
@@ -76,9 +76,14 @@ pub record IsHeld (t : Table) (o : Operands) : Type 0 where
 -- types and operands may have grown: each mark that was given keeps its operands
 pub record Grows (t : Table) (o : Operands) (u : Table) (p : Operands) : Type 0 where
   pub types : Keeps t u
-  pub records : u.records ≡ t.records
   pub held : IsHeld u p
   pub marks : (n : ℕ) → IsMark o n → IsMark p n × (values_at u p n ≡ values_at t o n)
+
+-- the same records are seen
+pub record StaysOver (t : Table) (x : RecordTable) (u : Table) : Type 0 where
+  pub records : u.records ≡ t.records
+  pub of : IsOf u x
+  pub same : (s : State) → with_records u x s ≡ with_records t x s
 
 -- what is done to a state
 abbrev pub Does : Table → Operands → (State → State) → Table → Operands → Type 0

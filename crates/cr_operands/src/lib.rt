@@ -11,6 +11,7 @@ ghost use Rattle.cr_operands.specs.Laws.{OperandsStay, TargetsStay, GrowthsFollo
 
 pub use fault::OperandFault;
 pub use operands::Operands;
+pub use operators::is_arrow;
 pub use target::Target;
 
 /// As types are added the same operands are seen. It does nothing: its contract is the law.

@@ -12,7 +12,7 @@ ghost use Rattle.cr_binding.specs.Expressions.{push, value_type, operand, on_two
 ghost use Rattle.cr_binding.specs.Initialising.{InBraces, item_within, list_opened, index_designator};
 ghost use Rattle.cr_records.specs.Kept.{IsOf};
 ghost use Rattle.cr_operands.specs.Kept.{IsLast, AreLast, is_postfix};
-ghost use Rattle.cr_operands.specs.Operands.{IsMark, values_at, values_of, target_of, IsTarget, with_operands, seen, Numbers, IsHeld, Grows, Does, Same, DoesOver, with_put, with_cut, with_values, changing, with_target, aimed_at, last_item, item_of, item_ended, operated_as, Finds, Refuses, selects, may_select, designates};
+ghost use Rattle.cr_operands.specs.Operands.{IsMark, values_at, values_of, target_of, IsTarget, with_operands, seen, Numbers, IsHeld, Grows, StaysOver, Does, Same, DoesOver, with_put, with_cut, with_values, changing, with_target, aimed_at, last_item, item_of, item_ended, operated_as, Finds, Refuses, selects, may_select, designates};
 
 use crate::fault::OperandFault;
 use crate::operators::{
@@ -170,6 +170,7 @@ impl Operands {
         ensures ok { OnOk result (Does types.old self.old (changing (on_two (binary_type of))) types.new self.new) }
         ensures err { OnErr result (Same types.old self.old types.new self.new) }
         ensures grows { Grows types.old self.old types.new self.new }
+        ensures over { StaysOver types.old records.now types.new }
     {
         match self.last_two() {
             Some((left, right)) => {
@@ -188,6 +189,7 @@ impl Operands {
         ensures ok { OnOk result (Does types.old self.old (changing (on_one (unary_type of))) types.new self.new) }
         ensures err { OnErr result (Same types.old self.old types.new self.new) }
         ensures grows { Grows types.old self.old types.new self.new }
+        ensures over { StaysOver types.old records.now types.new }
     {
         match self.last() {
             Some(row) => {
@@ -229,6 +231,7 @@ impl Operands {
         ensures ok { OnOk result (Does types.old self.old (changing (λ cs. on_two second_type (on_two (binary_type op.Choice) cs))) types.new self.new) }
         ensures err { OnErr result (Same types.old self.old types.new self.new) }
         ensures grows { Grows types.old self.old types.new self.new }
+        ensures over { StaysOver types.old records.now types.new }
     {
         let mark = self.mark();
         self.binary(types, records, Op::Choice)?;
@@ -249,6 +252,7 @@ impl Operands {
         ensures ok { OnOk result (Does types.old self.old (changing (postfix of)) types.new self.new) }
         ensures err { OnErr result (Same types.old self.old types.new self.new) }
         ensures grows { Grows types.old self.old types.new self.new }
+        ensures over { StaysOver types.old records.now types.new }
     {
         if is_index(of) {
             self.binary(types, records, Op::Index)
@@ -269,6 +273,7 @@ impl Operands {
         ensures ok { OnOk result (Does types.old self.old (changing (operated n.Primary text.now)) types.new self.new) }
         ensures err { OnErr result (Same types.old self.old types.new self.new) }
         ensures grows { Grows types.old self.old types.new self.new }
+        ensures over { StaysOver types.old records.now types.new }
     {
         if is_offset(text) {
             self.unary(types, records, Op::Other)
@@ -290,6 +295,7 @@ impl Operands {
         ensures ok { OnOk result (Does types.old self.old (changing (operated_as form text.now)) types.new self.new) }
         ensures err { OnErr result (Same types.old self.old types.new self.new) }
         ensures grows { Grows types.old self.old types.new self.new }
+        ensures over { StaysOver types.old records.now types.new }
     {
         match form {
             Form::Comma => self.binary(types, records, Op::Comma),
@@ -319,6 +325,7 @@ impl Operands {
         ensures ok { OnOk result (Does types.old self.old (changing (operated node text.now)) types.new self.new) }
         ensures err { OnErr result (Same types.old self.old types.new self.new) }
         ensures grows { Grows types.old self.old types.new self.new }
+        ensures over { StaysOver types.old records.now types.new }
     {
         self.operate_as(types, records, form_of(node), text)
     }
@@ -330,6 +337,7 @@ impl Operands {
         ensures ok { OnOk result (Does types.old self.old (changing (postfix op.Index)) types.new self.new) }
         ensures err { OnErr result (Same types.old self.old types.new self.new) }
         ensures grows { Grows types.old self.old types.new self.new }
+        ensures over { StaysOver types.old records.now types.new }
     {
         self.postfix(types, records, Op::Index)
     }
@@ -341,6 +349,7 @@ impl Operands {
         ensures ok { OnOk result (Does types.old self.old (changing (on_two (binary_type op.Generic))) types.new self.new) }
         ensures err { OnErr result (Same types.old self.old types.new self.new) }
         ensures grows { Grows types.old self.old types.new self.new }
+        ensures over { StaysOver types.old records.now types.new }
     {
         self.binary(types, records, Op::Generic)
     }

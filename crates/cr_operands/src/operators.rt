@@ -1,7 +1,7 @@
 //! Which operator a token is.
 ghost use Rattle.std.specs.Prelude.{◌≡◌, true};
 ghost use Rattle.cr_typing.specs.ExpressionTypes.{is_binary, is_unary};
-ghost use Rattle.cr_binding.specs.Expressions.{operator_among, binary_operators, unary_operators, postfix_operators, is_offset};
+ghost use Rattle.cr_binding.specs.Expressions.{operator_among, binary_operators, unary_operators, postfix_operators, is_offset, is_arrow};
 ghost use Rattle.cr_operands.specs.Kept.{is_postfix, is_index, form_of};
 
 use cr_grammar::NonTerm;
@@ -92,4 +92,11 @@ pub fn is_offset(text: &[u8]) -> bool
     ensures { result ≡ is_offset text.now }
 {
     text == b"__builtin_offsetof".as_slice()
+}
+
+/// Whether a member is selected by an arrow, by the text of the operator (C11 6.5.2.3).
+pub fn is_arrow(text: &[u8]) -> bool
+    ensures { result ≡ is_arrow text.now }
+{
+    text == b"->".as_slice()
 }

@@ -2,7 +2,7 @@ mod Adding
 mod Announcing
 mod Calls
 mod Ending
-mod Growing
+pub mod Growing
 mod Same
 pub mod Seen
 pub mod Selecting

@@ -1,5 +1,5 @@
 use Rattle.cr_typing.specs.ExpressionTypes.{binary_type}
-use Rattle.cr_operands.proofs.Changing.{two_given, on_ok, on_err, either_way, two_does, two_grows, same_stays, grows_stays}
+use Rattle.cr_operands.proofs.Changing.{two_given, on_ok, on_err, either_way, two_does, two_grows, same_stays, grows_stays, stays_over}
 use Rattle.cr_operands.proofs.operands.Operands.binary.Goals as goal
 
 pub binary-requires-clause-left_given : goal.binary-requires-clause-left_given
@@ -19,12 +19,16 @@ returns-in_ok-ty-in-Some-clause-ok c =
 
 pub returns-in_ok-ty-in-Some-clause-err : goal.returns-in_ok-ty-in-Some-clause-err
 returns-in_ok-ty-in-Some-clause-err c =
-    on_err c.put.result (same_stays c.args.types.now c.binary.new.types c.args.self.now c.put.new.self c.binary.ensures.keeps c.binary.ensures.records c.requires.held) c.put.ensures.err
+    on_err c.put.result (same_stays c.args.types.now c.binary.new.types c.args.self.now c.put.new.self c.binary.ensures.keeps c.requires.held) c.put.ensures.err
 
 pub returns-in_ok-ty-in-Some-clause-grows : goal.returns-in_ok-ty-in-Some-clause-grows
 returns-in_ok-ty-in-Some-clause-grows c =
     either_way c.put.result
     (λ e. two_grows c.args.types.now c.binary.new.types c.args.self.now c.put.new.self c.in-Some.left c.in-Some.right c.in_ok-ty-in-Some.ty (binary_type c.args.of) c.requires.held
-    c.binary.ensures.keeps c.in-Some.ensures c.in_ok-ty-in-Some.ensures.meant e c.binary.ensures.records c.in_ok-ty-in-Some.ensures.given)
-    (grows_stays c.args.types.now c.binary.new.types c.args.self.now c.put.new.self c.binary.ensures.keeps c.binary.ensures.records c.requires.held)
+    c.binary.ensures.keeps c.in-Some.ensures c.in_ok-ty-in-Some.ensures.meant e c.in_ok-ty-in-Some.ensures.given)
+    (grows_stays c.args.types.now c.binary.new.types c.args.self.now c.put.new.self c.binary.ensures.keeps c.requires.held)
     c.put.ensures.ok c.put.ensures.err
+
+pub returns-in_ok-ty-in-Some-clause-over : goal.returns-in_ok-ty-in-Some-clause-over
+returns-in_ok-ty-in-Some-clause-over c =
+    stays_over c.args.types.now c.binary.new.types c.args.records.now c.binary.ensures.keeps c.binary.ensures.records c.typing.ensures.kept c.requires.of

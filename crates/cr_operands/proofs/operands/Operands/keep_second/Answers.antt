@@ -8,6 +8,6 @@ returns-in-Some-clause-grows c =
     let given = (two_given c.args.types.now c.args.self.now c.in-Some.left c.in-Some.right c.requires c.in-Some.ensures).1 in
     either_way c.put.result
     (λ e. two_grows c.args.types.now c.args.types.now c.args.self.now c.put.new.self c.in-Some.left c.in-Some.right c.in-Some.right.ty second_type c.requires
-    (keeps_itself c.args.types.now) c.in-Some.ensures refl e refl given)
-    (grows_stays c.args.types.now c.args.types.now c.args.self.now c.put.new.self (keeps_itself c.args.types.now) refl c.requires)
+    (keeps_itself c.args.types.now) c.in-Some.ensures refl e given)
+    (grows_stays c.args.types.now c.args.types.now c.args.self.now c.put.new.self (keeps_itself c.args.types.now) c.requires)
     c.put.ensures.ok c.put.ensures.err

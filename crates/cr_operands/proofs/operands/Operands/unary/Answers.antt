@@ -1,5 +1,5 @@
 use Rattle.cr_typing.specs.ExpressionTypes.{unary_type}
-use Rattle.cr_operands.proofs.Changing.{last_given, on_ok, on_err, either_way, one_does, one_grows, same_stays, grows_stays}
+use Rattle.cr_operands.proofs.Changing.{last_given, on_ok, on_err, either_way, one_does, one_grows, same_stays, grows_stays, stays_over}
 use Rattle.cr_operands.proofs.operands.Operands.unary.Goals as goal
 
 pub unary-requires-clause-of_given : goal.unary-requires-clause-of_given
@@ -14,12 +14,16 @@ returns-in_ok-ty-in-Some-clause-ok c =
 
 pub returns-in_ok-ty-in-Some-clause-err : goal.returns-in_ok-ty-in-Some-clause-err
 returns-in_ok-ty-in-Some-clause-err c =
-    on_err c.put.result (same_stays c.args.types.now c.unary.new.types c.args.self.now c.put.new.self c.unary.ensures.keeps c.unary.ensures.records c.requires.held) c.put.ensures.err
+    on_err c.put.result (same_stays c.args.types.now c.unary.new.types c.args.self.now c.put.new.self c.unary.ensures.keeps c.requires.held) c.put.ensures.err
 
 pub returns-in_ok-ty-in-Some-clause-grows : goal.returns-in_ok-ty-in-Some-clause-grows
 returns-in_ok-ty-in-Some-clause-grows c =
     either_way c.put.result
     (λ e. one_grows c.args.types.now c.unary.new.types c.args.self.now c.put.new.self c.in-Some.row c.in_ok-ty-in-Some.ty (unary_type c.args.of) c.requires.held
-    c.unary.ensures.keeps c.in-Some.ensures c.in_ok-ty-in-Some.ensures.meant e c.unary.ensures.records c.in_ok-ty-in-Some.ensures.given)
-    (grows_stays c.args.types.now c.unary.new.types c.args.self.now c.put.new.self c.unary.ensures.keeps c.unary.ensures.records c.requires.held)
+    c.unary.ensures.keeps c.in-Some.ensures c.in_ok-ty-in-Some.ensures.meant e c.in_ok-ty-in-Some.ensures.given)
+    (grows_stays c.args.types.now c.unary.new.types c.args.self.now c.put.new.self c.unary.ensures.keeps c.requires.held)
     c.put.ensures.ok c.put.ensures.err
+
+pub returns-in_ok-ty-in-Some-clause-over : goal.returns-in_ok-ty-in-Some-clause-over
+returns-in_ok-ty-in-Some-clause-over c =
+    stays_over c.args.types.now c.unary.new.types c.args.records.now c.unary.ensures.keeps c.unary.ensures.records c.typing.ensures.kept c.requires.of
