@@ -18,7 +18,8 @@ pub record Marked : Type 0 where
 abbrev pub no_values : Marked
 no_values = record { rows = []; top = 0 }
 
--- The operands of a mark, the last one first. A mark is the number of a row, counted from one, and 0 is that of none.
+-- The operands of a mark, the last one first. A mark is the number of a row, counted from one, and 0
+-- is that of none.
 abbrev pub chain : ℕ → List Row → List TypeNo
 chain n [] = []
 chain n (r ∷ rs) = if n == length rs + 1 then r.ty ∷ chain r.rest rs else chain n rs

@@ -86,14 +86,17 @@ pub record StaysOver (t : Table) (x : RecordTable) (u : Table) : Type 0 where
   pub same : (s : State) → with_records u x s ≡ with_records t x s
 
 -- what is done to a state
-abbrev pub Does : Table → Operands → (State → State) → Table → Operands → Type 0
+abbrev pub Change : Type 0
+Change = State → State
+
+abbrev pub Does : Table → Operands → Change → Table → Operands → Type 0
 Does t o f u p = (s : State) → with_operands u p s ≡ f (with_operands t o s)
 
 abbrev pub Same : Table → Operands → Table → Operands → Type 0
 Same t o u p = Does t o (λ s. s) u p
 
 -- the same over records
-abbrev pub DoesOver : Table → RecordTable → Operands → (State → State) → Operands → Type 0
+abbrev pub DoesOver : Table → RecordTable → Operands → Change → Operands → Type 0
 DoesOver t x o f p = (s : State) → seen t x p s ≡ f (seen t x o s)
 
 -- operands, of which the last has changed: with a row, or as those of a mark alone
@@ -124,7 +127,8 @@ abbrev pub last_item : (is_string : Bool) → State → Item
 last_item is_string s = if is_string then StringValue else Value (operand s)
 
 abbrev pub item_ended : (is_string : Bool) → State → State
-item_ended is_string s = record s { target = item_within s (last_item is_string s) s.target; values = drop 1 s.values }
+item_ended is_string s =
+    record s { target = item_within s (last_item is_string s) s.target; values = drop 1 s.values }
 
 -- what an item is
 abbrev pub item_of : Table → ItemKind → Item
@@ -136,41 +140,51 @@ item_of t kind.StringValue = StringValue
 abbrev pub seen_target : Table → RecordTable → Aim → State → State
 seen_target t x a s = record (with_records t x s) { target = target_of t a }
 
+-- of `?:`, whose condition gives way to the results (6.5.15p5)
+abbrev pub conditional_values : List CType → List CType
+conditional_values cs = on_two second_type (on_two (binary_type op.Choice) cs)
+
 -- what the operators of a form do to the types of operands
 abbrev pub operated_as : Form → List ℕ → List CType → List CType
 operated_as forms.Comma text cs = on_two (binary_type op.Comma) cs
 operated_as forms.Assignment text cs = on_two (binary_type op.Assign) cs
-operated_as forms.Conditional text cs = on_two second_type (on_two (binary_type op.Choice) cs)
+operated_as forms.Conditional text cs = conditional_values cs
 operated_as forms.Cast text cs = on_two first_type cs
 operated_as forms.Prefix text cs = on_one (unary_type (operator_among unary_operators text)) cs
 operated_as forms.Postfix text cs = postfix (operator_among postfix_operators text) cs
-operated_as forms.Primary text cs = if is_offset text then on_one (unary_type op.Other) cs else on_two second_type cs
+operated_as forms.Primary text cs =
+    if is_offset text then on_one (unary_type op.Other) cs else on_two second_type cs
 operated_as forms.Infix text cs = on_two (binary_type (operator_among binary_operators text)) cs
 
 -- ---- a name at a token
 
--- What f does with the name at token i is g in the state afterwards, where tokens and members are spelled so.
-abbrev pub Finds : RecordTable → Name → (f : Source → ℕ → State → State) (g : ℕ → State → State) (before after : State → State) → Type 0
+-- what is done with the name at a token
+abbrev pub Naming : Type 0
+Naming = Source → ℕ → Change
+
+-- What f does with the name at token i is g in the state afterwards, where tokens and members are
+-- spelled so.
+abbrev pub Finds : RecordTable → Name → Naming → (ℕ → Change) → (before after : Change) → Type 0
 Finds x name f g before after =
     (source : Source) (i : ℕ) (s : State) → name_at source i ≡ name → AreSpelled source x
     → f source i (before s) ≡ g i (after s)
 
 -- a fault is that of f at the token
-abbrev pub Refuses : RecordTable → Name → (f : Source → ℕ → State → State) (before : State → State) → OperandFault → Type 0
+abbrev pub Refuses : RecordTable → Name → Naming → (before : Change) → OperandFault → Type 0
 Refuses x name f before fault.OutOfMemory = Unit {0}
 Refuses x name f before (fault.Ill c) =
     (source : Source) (i : ℕ) (s : State) → name_at source i ≡ name → AreSpelled source x
     → f source i (before s) ≡ failed c i (before s)
 
 -- token i selects the member that is declared at token k
-abbrev pub selects : ℕ → ℕ → State → State
+abbrev pub selects : ℕ → ℕ → Change
 selects k i s = used (Selects i k) s
 
 -- the same, if it selects one
-abbrev pub may_select : Option ℕ → ℕ → State → State
+abbrev pub may_select : Option ℕ → ℕ → Change
 may_select None i s = s
 may_select (Some k) i s = selects k i s
 
 -- `.name` at token i designates
-abbrev pub designates : Source → ℕ → State → State
+abbrev pub designates : Naming
 designates t i s = designator s.target t i s

@@ -12,7 +12,7 @@ ghost use Rattle.cr_binding.specs.Expressions.{push, value_type, operand, on_two
 ghost use Rattle.cr_binding.specs.Initialising.{InBraces, item_within, list_opened, index_designator};
 ghost use Rattle.cr_records.specs.Kept.{IsOf};
 ghost use Rattle.cr_operands.specs.Kept.{IsLast, AreLast, is_postfix};
-ghost use Rattle.cr_operands.specs.Operands.{IsMark, values_at, values_of, target_of, IsTarget, with_operands, seen, Numbers, IsHeld, Grows, StaysOver, Does, Same, DoesOver, with_put, with_cut, with_values, changing, with_target, aimed_at, last_item, item_of, item_ended, operated_as, Finds, Refuses, selects, may_select, designates};
+ghost use Rattle.cr_operands.specs.Operands.{IsMark, values_at, values_of, target_of, IsTarget, with_operands, seen, Numbers, IsHeld, Grows, StaysOver, Does, Same, DoesOver, with_put, with_cut, with_values, changing, with_target, aimed_at, conditional_values, last_item, item_of, item_ended, operated_as, Finds, Refuses, selects, may_select, designates};
 
 use crate::fault::OperandFault;
 use crate::operators::{
@@ -46,7 +46,8 @@ fn is_string(kind: TokKind) -> bool
 impl Operands {
     /// No operands, and no object: its type is void.
     pub fn new(alloc: Global, types: &mut Types) -> Result<Operands, OutOfMemory>
-        ensures none { IfOk result (λ o. (s : State) → with_operands types.new o s ≡ aimed_at Void (with_values [] s)) }
+        ensures none { IfOk result (λ o. (s : State)
+            → with_operands types.new o s ≡ aimed_at Void (with_values [] s)) }
         ensures held { IfOk result (IsHeld types.new) }
         ensures records { types.new.records ≡ types.old.records }
         ensures keeps { Keeps types.old types.new }
@@ -77,7 +78,8 @@ impl Operands {
     /// The operands of a mark that was given: those of a node are gone behind it.
     pub fn restore(&mut self, mark: usize)
         requires { IsMark self.old mark }
-        ensures ok { (t : Table) → Does t self.old (with_values (values_at t self.old mark)) t self.new }
+        ensures ok { (t : Table) → let values = values_at t self.old mark in
+            Does t self.old (with_values values) t self.new }
         ensures grows { (t : Table) → IsHeld t self.old → Grows t self.old t self.new }
     {
         self.cut(mark);
@@ -93,7 +95,8 @@ impl Operands {
     // An operand above those of a mark.
     fn put(&mut self, ty: TypeNo, rest: usize) -> Result<(), OutOfMemory>
         requires { IsMark self.old rest }
-        ensures ok { OnOk result (self.new ≡ with_put (record { ty = ty; rest = rest }) self.old) }
+        ensures ok { OnOk result
+            (self.new ≡ with_put (record { ty = ty; rest = rest }) self.old) }
         ensures err { OnErr result (self.new ≡ self.old) }
     {
         self.values.put(Row { ty, rest })?;
@@ -117,7 +120,8 @@ impl Operands {
     // The mark of the operands below the last one.
     fn below(&self) -> usize
         ensures mark { IsMark self.now result }
-        ensures values { (t : Table) → values_at t self.now result ≡ drop 1 (values_of t self.now) }
+        ensures values { (t : Table)
+            → values_at t self.now result ≡ drop 1 (values_of t self.now) }
     {
         match self.last() {
             Some(row) => row.rest,
@@ -129,7 +133,8 @@ impl Operands {
 
     /// The type of the last operand; where there is none it is that of a generic selection with different results.
     pub fn operand(&self) -> TypeNo
-        ensures { (t : Table) (s : State) → IsHeld t self.now → Numbers t result (operand (with_operands t self.now s)) }
+        ensures { (t : Table) (s : State) → IsHeld t self.now
+            → Numbers t result (operand (with_operands t self.now s)) }
     {
         match self.last() {
             Some(row) => row.ty,
@@ -139,8 +144,10 @@ impl Operands {
 
     /// An operand of a type.
     pub fn push(&mut self, ty: TypeNo) -> Result<(), OutOfMemory>
-        ensures ok { OnOk result ((t : Table) → IsHeld t self.old → IsTypeNo t ty → Does t self.old (push (type_at t ty)) t self.new) }
-        ensures grows { OnOk result ((t : Table) → IsHeld t self.old → IsTypeNo t ty → Grows t self.old t self.new) }
+        ensures ok { OnOk result ((t : Table) → IsHeld t self.old → IsTypeNo t ty
+            → Does t self.old (push (type_at t ty)) t self.new) }
+        ensures grows { OnOk result ((t : Table) → IsHeld t self.old → IsTypeNo t ty
+            → Grows t self.old t self.new) }
         ensures err { OnErr result (self.new ≡ self.old) }
     {
         let top = self.values.top();
@@ -149,8 +156,11 @@ impl Operands {
 
     /// A constant or a string literal, by the kind of its token, is an operand (C11 6.4.4, 6.4.5).
     pub fn push_value(&mut self, kind: TokKind) -> Result<(), OutOfMemory>
-        ensures ok { OnOk result ((t : Table) (source : Source) (i : ℕ) → IsHeld t self.old → (token_of source i).kind ≡ kind → Does t self.old (push (value_type source i)) t self.new) }
-        ensures grows { OnOk result ((t : Table) → IsHeld t self.old → Grows t self.old t self.new) }
+        ensures ok { OnOk result ((t : Table) (source : Source) (i : ℕ)
+            → IsHeld t self.old → (token_of source i).kind ≡ kind
+            → Does t self.old (push (value_type source i)) t self.new) }
+        ensures grows { OnOk result ((t : Table) → IsHeld t self.old
+            → Grows t self.old t self.new) }
         ensures err { OnErr result (self.new ≡ self.old) }
     {
         if is_string(kind) {
@@ -167,7 +177,8 @@ impl Operands {
         requires of { IsOf types.old records.now }
         requires held { IsHeld types.old self.old }
         requires op { is_binary of ≡ true }
-        ensures ok { OnOk result (Does types.old self.old (changing (on_two (binary_type of))) types.new self.new) }
+        ensures ok { OnOk result
+            (Does types.old self.old (changing (on_two (binary_type of))) types.new self.new) }
         ensures err { OnErr result (Same types.old self.old types.new self.new) }
         ensures grows { Grows types.old self.old types.new self.new }
         ensures over { StaysOver types.old records.now types.new }
@@ -186,7 +197,8 @@ impl Operands {
         requires of { IsOf types.old records.now }
         requires held { IsHeld types.old self.old }
         requires op { is_unary of ≡ true }
-        ensures ok { OnOk result (Does types.old self.old (changing (on_one (unary_type of))) types.new self.new) }
+        ensures ok { OnOk result
+            (Does types.old self.old (changing (on_one (unary_type of))) types.new self.new) }
         ensures err { OnErr result (Same types.old self.old types.new self.new) }
         ensures grows { Grows types.old self.old types.new self.new }
         ensures over { StaysOver types.old records.now types.new }
@@ -214,7 +226,8 @@ impl Operands {
     // Of the last two operands the second.
     fn keep_second(&mut self, types: &Types) -> Result<(), OutOfMemory>
         requires { IsHeld types.now self.old }
-        ensures ok { OnOk result (Does types.now self.old (changing (on_two second_type)) types.now self.new) }
+        ensures ok { OnOk result
+            (Does types.now self.old (changing (on_two second_type)) types.now self.new) }
         ensures err { OnErr result (self.new ≡ self.old) }
         ensures grows { Grows types.now self.old types.now self.new }
     {
@@ -228,7 +241,8 @@ impl Operands {
     fn conditional(&mut self, types: &mut Types, records: &Records) -> Result<(), OutOfMemory>
         requires of { IsOf types.old records.now }
         requires held { IsHeld types.old self.old }
-        ensures ok { OnOk result (Does types.old self.old (changing (λ cs. on_two second_type (on_two (binary_type op.Choice) cs))) types.new self.new) }
+        ensures ok { OnOk result
+            (Does types.old self.old (changing conditional_values) types.new self.new) }
         ensures err { OnErr result (Same types.old self.old types.new self.new) }
         ensures grows { Grows types.old self.old types.new self.new }
         ensures over { StaysOver types.old records.now types.new }
@@ -249,7 +263,8 @@ impl Operands {
         requires of { IsOf types.old records.now }
         requires held { IsHeld types.old self.old }
         requires op { is_postfix of ≡ true }
-        ensures ok { OnOk result (Does types.old self.old (changing (postfix of)) types.new self.new) }
+        ensures ok { OnOk result
+            (Does types.old self.old (changing (postfix of)) types.new self.new) }
         ensures err { OnErr result (Same types.old self.old types.new self.new) }
         ensures grows { Grows types.old self.old types.new self.new }
         ensures over { StaysOver types.old records.now types.new }
@@ -270,7 +285,8 @@ impl Operands {
     ) -> Result<(), OutOfMemory>
         requires of { IsOf types.old records.now }
         requires held { IsHeld types.old self.old }
-        ensures ok { OnOk result (Does types.old self.old (changing (operated n.Primary text.now)) types.new self.new) }
+        ensures ok { OnOk result
+            (Does types.old self.old (changing (operated n.Primary text.now)) types.new self.new) }
         ensures err { OnErr result (Same types.old self.old types.new self.new) }
         ensures grows { Grows types.old self.old types.new self.new }
         ensures over { StaysOver types.old records.now types.new }
@@ -292,7 +308,8 @@ impl Operands {
     ) -> Result<(), OutOfMemory>
         requires of { IsOf types.old records.now }
         requires held { IsHeld types.old self.old }
-        ensures ok { OnOk result (Does types.old self.old (changing (operated_as form text.now)) types.new self.new) }
+        ensures ok { OnOk result
+            (Does types.old self.old (changing (operated_as form text.now)) types.new self.new) }
         ensures err { OnErr result (Same types.old self.old types.new self.new) }
         ensures grows { Grows types.old self.old types.new self.new }
         ensures over { StaysOver types.old records.now types.new }
@@ -322,7 +339,8 @@ impl Operands {
     ) -> Result<(), OutOfMemory>
         requires of { IsOf types.old records.now }
         requires held { IsHeld types.old self.old }
-        ensures ok { OnOk result (Does types.old self.old (changing (operated node text.now)) types.new self.new) }
+        ensures ok { OnOk result
+            (Does types.old self.old (changing (operated node text.now)) types.new self.new) }
         ensures err { OnErr result (Same types.old self.old types.new self.new) }
         ensures grows { Grows types.old self.old types.new self.new }
         ensures over { StaysOver types.old records.now types.new }
@@ -334,7 +352,8 @@ impl Operands {
     pub fn index_offset(&mut self, types: &mut Types, records: &Records) -> Result<(), OutOfMemory>
         requires of { IsOf types.old records.now }
         requires held { IsHeld types.old self.old }
-        ensures ok { OnOk result (Does types.old self.old (changing (postfix op.Index)) types.new self.new) }
+        ensures ok { OnOk result
+            (Does types.old self.old (changing (postfix op.Index)) types.new self.new) }
         ensures err { OnErr result (Same types.old self.old types.new self.new) }
         ensures grows { Grows types.old self.old types.new self.new }
         ensures over { StaysOver types.old records.now types.new }
@@ -346,7 +365,8 @@ impl Operands {
     pub fn join_results(&mut self, types: &mut Types, records: &Records) -> Result<(), OutOfMemory>
         requires of { IsOf types.old records.now }
         requires held { IsHeld types.old self.old }
-        ensures ok { OnOk result (Does types.old self.old (changing (on_two (binary_type op.Generic))) types.new self.new) }
+        ensures ok { let f = on_two (binary_type op.Generic) in
+            OnOk result (Does types.old self.old (changing f) types.new self.new) }
         ensures err { OnErr result (Same types.old self.old types.new self.new) }
         ensures grows { Grows types.old self.old types.new self.new }
         ensures over { StaysOver types.old records.now types.new }
@@ -367,8 +387,11 @@ impl Operands {
     ) -> Result<u32, OperandFault>
         requires of { IsOf types.now records.now }
         requires held { IsHeld types.now self.old }
-        ensures ok { IfOk result (λ k. Finds records.now name (selection arrow) (selects k) (seen types.now records.now self.old) (seen types.now records.now self.new)) }
-        ensures ill { IfErr result (Refuses records.now name (selection arrow) (seen types.now records.now self.old)) }
+        ensures ok { let before = seen types.now records.now self.old in
+            let after = seen types.now records.now self.new in
+            IfOk result (λ k. Finds records.now name (selection arrow) (selects k) before after) }
+        ensures ill { let before = seen types.now records.now self.old in
+            IfErr result (Refuses records.now name (selection arrow) before) }
         ensures err { OnErr result (self.new ≡ self.old) }
         ensures grows { Grows types.now self.old types.now self.new }
     {
@@ -387,14 +410,17 @@ impl Operands {
     /// An initialiser is for an object of a type (C11 6.7.9).
     pub fn aim(&mut self, ty: TypeNo)
         ensures ok { (t : Table) → Does t self.old (aimed_at (type_at t ty)) t self.new }
-        ensures grows { (t : Table) → IsHeld t self.old → IsTypeNo t ty → Grows t self.old t self.new }
+        ensures grows { (t : Table) → IsHeld t self.old → IsTypeNo t ty
+            → Grows t self.old t self.new }
     {
         self.target = Target::Whole(ty);
     }
 
     /// An initialiser is for a compound literal of the last operand's type (C11 6.5.2.5).
     pub fn aim_at_operand(&mut self)
-        ensures ok { (t : Table) (s : State) → IsHeld t self.old → with_operands t self.new s ≡ aimed_at (operand (with_operands t self.old s)) (with_operands t self.old s) }
+        ensures ok { (t : Table) (s : State) → IsHeld t self.old
+            → let before = with_operands t self.old s in
+            with_operands t self.new s ≡ aimed_at (operand before) before }
         ensures grows { (t : Table) → IsHeld t self.old → Grows t self.old t self.new }
     {
         let ty = self.operand();
@@ -414,7 +440,8 @@ impl Operands {
     // What an item is that is the last operand.
     fn item(&self, is_string: bool) -> ItemKind
         ensures kind { (t : Table) → IsHeld t self.now → IsKindOf t result }
-        ensures meant { (t : Table) (s : State) → IsHeld t self.now → item_of t result ≡ last_item is_string (with_operands t self.now s) }
+        ensures meant { (t : Table) (s : State) → IsHeld t self.now
+            → item_of t result ≡ last_item is_string (with_operands t self.now s) }
     {
         if is_string {
             ItemKind::StringValue
@@ -459,8 +486,11 @@ impl Operands {
     ) -> Result<Option<u32>, OperandFault>
         requires of { IsOf types.now records.now }
         requires held { IsHeld types.now self.old }
-        ensures ok { IfOk result (λ k. Finds records.now name designates (may_select k) (seen types.now records.now self.old) (seen types.now records.now self.new)) }
-        ensures ill { IfErr result (Refuses records.now name designates (seen types.now records.now self.old)) }
+        ensures ok { let before = seen types.now records.now self.old in
+            let after = seen types.now records.now self.new in
+            IfOk result (λ k. Finds records.now name designates (may_select k) before after) }
+        ensures ill { let before = seen types.now records.now self.old in
+            IfErr result (Refuses records.now name designates before) }
         ensures err { OnErr result (self.new ≡ self.old) }
         ensures grows { Grows types.now self.old types.now self.new }
     {
@@ -479,7 +509,8 @@ impl Operands {
     pub fn target_after_list(&self, types: &Types, records: &Records) -> Target
         requires of { IsOf types.now records.now }
         requires held { IsHeld types.now self.now }
-        ensures target { (s : State) → target_of types.now result ≡ item_within (seen types.now records.now self.now s) InBraces (seen types.now records.now self.now s).target }
+        ensures target { (s : State) → let now = seen types.now records.now self.now s in
+            target_of types.now result ≡ item_within now InBraces now.target }
         ensures held { IsTarget types.now result }
     {
         let mut target = self.target.copy();
@@ -490,7 +521,8 @@ impl Operands {
     /// What was kept is put back.
     pub fn put_back(&mut self, target: Target)
         ensures ok { (t : Table) → Does t self.old (with_target (target_of t target)) t self.new }
-        ensures grows { (t : Table) → IsHeld t self.old → IsTarget t target → Grows t self.old t self.new }
+        ensures grows { (t : Table) → IsHeld t self.old → IsTarget t target
+            → Grows t self.old t self.new }
     {
         self.target = target;
     }

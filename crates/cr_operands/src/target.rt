@@ -40,9 +40,11 @@ fn take(list: &mut InitList, types: &Types, typing: &Typing, of: ItemKind) -> Op
     requires members_held { AreOfTable types.now typing.now }
     requires list_held { AreHeld types.now list.old }
     requires kind_given { IsKindOf types.now of }
-    ensures object { option_map (type_at types.now) result ≡ (taken types.now typing.now (braces_of types.now list.old)).object }
+    ensures object { let before = braces_of types.now list.old in
+        option_map (type_at types.now) result ≡ (taken types.now typing.now before).object }
     ensures given { IfSome result (IsTypeNo types.now) }
-    ensures ok { braces_of types.now list.new ≡ with_item types.now typing.now (braces_of types.now list.old) of }
+    ensures ok { let before = braces_of types.now list.old in
+        braces_of types.now list.new ≡ with_item types.now typing.now before of }
     ensures held { AreHeld types.now list.new }
 {
     match list.item(types, typing, of) {
@@ -73,8 +75,11 @@ fn designate(
 ) -> Result<Option<u32>, OperandFault>
     requires of { IsOf types.now records.now }
     requires list_held { AreHeld types.now list.old }
-    ensures ok { IfOk result (λ k. Finds records.now name designates (may_select k) (seen_target types.now records.now (Target.Within list.old)) (seen_target types.now records.now (Target.Within list.new))) }
-    ensures ill { IfErr result (Refuses records.now name designates (seen_target types.now records.now (Target.Within list.old))) }
+    ensures ok { let before = seen_target types.now records.now (Target.Within list.old) in
+        let after = seen_target types.now records.now (Target.Within list.new) in
+        IfOk result (λ k. Finds records.now name designates (may_select k) before after) }
+    ensures ill { let before = seen_target types.now records.now (Target.Within list.old) in
+        IfErr result (Refuses records.now name designates before) }
     ensures err { OnErr result (list.new ≡ list.old) }
     ensures held { AreHeld types.now list.new }
 {
@@ -101,7 +106,9 @@ impl Target {
         requires of { IsOf types.now records.now }
         requires held { IsTarget types.now self.old }
         requires kind { IsKindOf types.now of }
-        ensures ok { (s : State) → target_of types.now self.new ≡ item_within (with_records types.now records.now s) (item_of types.now of) (target_of types.now self.old) }
+        ensures ok { (s : State) → let now = with_records types.now records.now s in
+            target_of types.now self.new
+            ≡ item_within now (item_of types.now of) (target_of types.now self.old) }
         ensures held { IsTarget types.now self.new }
     {
         match self {
@@ -116,7 +123,8 @@ impl Target {
     fn object(&self, types: &Types, records: &Records) -> Option<TypeNo>
         requires of { IsOf types.now records.now }
         requires held { IsTarget types.now self.now }
-        ensures meant { (s : State) → option_map (type_at types.now) result ≡ object_of (with_records types.now records.now s) (target_of types.now self.now) }
+        ensures meant { (s : State) → let now = with_records types.now records.now s in
+            option_map (type_at types.now) result ≡ object_of now (target_of types.now self.now) }
         ensures given { IfSome result (IsTypeNo types.now) }
     {
         match self {
@@ -132,7 +140,9 @@ impl Target {
     pub(crate) fn list(&self, types: &Types, records: &Records) -> Target
         requires of { IsOf types.now records.now }
         requires held { IsTarget types.now self.now }
-        ensures ok { (s : State) → target_of types.now result ≡ Within (list_for (with_records types.now records.now s) (object_of (with_records types.now records.now s) (target_of types.now self.now))) }
+        ensures ok { (s : State) → let now = with_records types.now records.now s in
+            target_of types.now result
+            ≡ Within (list_for now (object_of now (target_of types.now self.now))) }
         ensures held { IsTarget types.now result }
     {
         let object = self.object(types, records);
@@ -161,8 +171,11 @@ impl Target {
     ) -> Result<Option<u32>, OperandFault>
         requires of { IsOf types.now records.now }
         requires held { IsTarget types.now self.old }
-        ensures ok { IfOk result (λ k. Finds records.now name designates (may_select k) (seen_target types.now records.now self.old) (seen_target types.now records.now self.new)) }
-        ensures ill { IfErr result (Refuses records.now name designates (seen_target types.now records.now self.old)) }
+        ensures ok { let before = seen_target types.now records.now self.old in
+            let after = seen_target types.now records.now self.new in
+            IfOk result (λ k. Finds records.now name designates (may_select k) before after) }
+        ensures ill { let before = seen_target types.now records.now self.old in
+            IfErr result (Refuses records.now name designates before) }
         ensures err { OnErr result (self.new ≡ self.old) }
         ensures held { IsTarget types.now self.new }
     {
