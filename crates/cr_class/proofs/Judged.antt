@@ -132,7 +132,7 @@ on_ok (Err e) p f = tt
 pub same_refusal : (a r : Refusal) → ◌≡◌ {A = Result (Unit {0}) VerdictFault} (Err (fault.Refused a)) (Err (fault.Refused r)) → a ≡ r
 same_refusal a r e = cc
 
-true_any : {X : Type 0} (t : X → Bool) (xs : List X) (x : X) → Contains xs x → t x ≡ true → list_any t xs ≡ true
+pub true_any : {X : Type 0} (t : X → Bool) (xs : List X) (x : X) → Contains xs x → t x ≡ true → list_any t xs ≡ true
 true_any t [] x has e = let bad : ⊥ = omega (arith, has.1) in absurd bad
 true_any t (y ∷ xs) x has e = by (cons_cases y x xs has) (true_any t xs x)
   where

@@ -1,4 +1,5 @@
-mod Candidates
+pub mod Accepting
+pub mod Candidates
 mod Classes
 mod Declared
 mod Given

@@ -1,3 +1,4 @@
+pub mod Accepted
 pub mod Declarations
 pub mod Graph
 pub mod Judging

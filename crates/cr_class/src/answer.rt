@@ -4,10 +4,12 @@ ghost use Rattle.std.specs.Option.{option_map};
 ghost use Rattle.cr_class.specs.declared.refusal.Refusal.{Refusal as AnyRefusal};
 ghost use Rattle.cr_class.specs.declared.refusal.VerdictFault.TheVariants as fault;
 ghost use Rattle.cr_class.specs.RenameClass.{AreKnown};
+ghost use Rattle.cr_class.specs.Accepted.{NothingRefuses};
 ghost use Rattle.cr_class.specs.Verdict.{KnowsClass, Refuses, IsFirstRefusal};
 ghost use Rattle.cr_class.specs.Judging.{IsAsked, PassesStep, RefusesFirst};
 
 use crate::class::Class;
+use crate::laws::an_accepted_verdict_tells_of_each_fact;
 use crate::question::{Question, copied_places, members_of};
 use crate::refusal::VerdictFault;
 use crate::steps::{
@@ -55,8 +57,10 @@ pub fn verdict(
     requires class { KnowsClass snapshot.now class.now }
     ensures places { IfOk result (λ places. places.items ≡ class.now.places) }
     ensures ok { IfOk result (λ places. (r : AnyRefusal) → Refuses facts.now class.now snapshot.now (option_map (λ r. r.now) root.entry) old.now new.now r → ⊥) }
+    ensures accepted { IfOk result (λ places. NothingRefuses facts.now class.now snapshot.now (option_map (λ r. r.now) root.entry) old.now new.now) }
     ensures refused { (r : AnyRefusal) → result ≡ Err (fault.Refused r) → IsFirstRefusal facts.now class.now snapshot.now (option_map (λ r. r.now) root.entry) old.now new.now r }
 {
+    an_accepted_verdict_tells_of_each_fact();
     let question = Question {
         facts,
         class,

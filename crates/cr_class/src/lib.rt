@@ -7,6 +7,7 @@ mod declarations;
 mod files;
 mod graph;
 mod kinds;
+mod laws;
 mod places;
 mod question;
 mod refusal;
@@ -20,5 +21,6 @@ mod uses;
 
 pub use answer::verdict;
 pub use class::{Class, ClassFault, class_of};
+pub use laws::an_accepted_verdict_tells_of_each_fact;
 pub use refusal::{Refusal, VerdictFault};
 pub use target::Target;

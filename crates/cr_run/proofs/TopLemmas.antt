@@ -186,19 +186,19 @@ module _ (files : Files) (r : Rename) (edits : List CodeEdit) (are : map edit_of
           written_out (take n edits) 0 files path h ∙ sym (ap (λ b. if b then renamed_files r files path else files path) outside)
 
   -- a write that failed
-  pub half_written : (b : Bool) (now : Files) (w : Write) (n : ℕ) → slice_get (writes_if b edits) n ≡ Some w → IsStopped n (writes_if b edits) w files now → IsHalfWritten n w.edit.path r files now
-  half_written true now w n at (here, others) =
+  pub half_written : (b : Bool) (now : Files) (w : Write) (n : ℕ) → b ≡ r.in_place → slice_get (writes_if b edits) n ≡ Some w → IsStopped n (writes_if b edits) w files now → IsHalfWritten n w.edit.path r files now
+  half_written true now w n inside at (here, others) =
       let f = write_at edits 0 n w at in
       let path : w.edit.path ≡ f.0.path = ap (λ (z : CodeEdit). z.path) f.2 in
       let mine : slice_get (changed_paths r) n ≡ Some w.edit.path = ap (λ l. slice_get l n) (sym (paths files r edits are each apart)) ∙ slice_get-map (λ (edit : CodeEdit). edit.path) edits n ∙ ap (option_map (λ (edit : CodeEdit). edit.path)) f.1 ∙ ap (λ p. Some p) (sym path) in
-      (mine, side here mine, λ other away. others other away ∙ written_first n other)
+      (sym inside, mine, side here mine, λ other away. others other away ∙ written_first n other)
     where
       side : (now w.edit.path ≡ written (take n (writes_from 0 edits)) files w.edit.path) ⊎ (now w.edit.path ≡ Some w.edit.edited) → slice_get (changed_paths r) n ≡ Some w.edit.path → (now w.edit.path ≡ files w.edit.path) ⊎ (now w.edit.path ≡ renamed_files r files w.edit.path)
       side (inl old) mine = inl (old ∙ written_first n w.edit.path ∙ ap (λ b. if b then renamed_files r files w.edit.path else files w.edit.path) (not_first (changed_paths r) n w.edit.path apart mine))
       side (inr new) mine =
           let f = write_at edits 0 n w at in
           inr (new ∙ ap (λ (z : CodeEdit). Some z.edited) f.2 ∙ sym (each n f.0 f.1) ∙ ap (λ (z : CodeEdit). renamed_files r files z.path) (sym f.2))
-  half_written false now w n at h = let no : None ≡ Some w = at in let bad : ⊥ = cc in absurd bad
+  half_written false now w n inside at h = let no : None ≡ Some w = at in let bad : ⊥ = cc in absurd bad
 
 -- what is said of a write that failed
 pub fault_of : (writes : List Write) (w : Write) (n : ℕ) → AreWrites writes → slice_get writes n ≡ Some w → w.fault ≡ fault_text w.edit.path n

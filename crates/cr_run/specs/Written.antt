@@ -19,10 +19,12 @@ files_after r files = files_if r.in_place r files
 abbrev pub after_first : ℕ → Rename → Files → Files
 after_first n r files path = if list_any (bytes_eq path) (take n (changed_paths r)) then renamed_files r files path else files path
 
--- The first n of the files that change are new, the next one at this path is old or new, and all others are old.
+-- Files are to be written; the first n of those that change are new, the next one at this path is old or new, and all
+-- others are old.
 abbrev pub IsHalfWritten : ℕ → List ℕ → Rename → Files → Files → Type 0
 IsHalfWritten n path r files now =
-    (slice_get (changed_paths r) n ≡ Some path)
+    (r.in_place ≡ true)
+    × (slice_get (changed_paths r) n ≡ Some path)
     × ((now path ≡ files path) ⊎ (now path ≡ renamed_files r files path))
     × ((other : List ℕ) → other ≢ path → now other ≡ after_first n r files other)
 

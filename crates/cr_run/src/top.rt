@@ -61,8 +61,8 @@ pub fn crename_serial<T: Tree, O: Sink, E: Sink>(
         × Tells (E.bytes err.old) (E.bytes err.new) (E.faults err.old) (E.faults err.new) (line_of (codes "read fault: " ++ path))
         × ((files : Files) → T.files tree.old ≡ Some files → MayRead (map string_bytes words.now) files path) }
 
-    // 16: a replace of the path that the line names failed in this call. The first n of the files that change
-    // are new, this one is old or new, all others are old, and nothing is printed.
+    // 16: files are to be written, and a replace of the path that the line names failed in this call. The first n of
+    // the files that change are new, this one is old or new, all others are old, and nothing is printed.
     ensures write_fault { result ≡ 16 → (path : List ℕ) × (n : ℕ) × Rose (T.replaces tree.old path) (T.replaces tree.new path)
         × Tells (E.bytes err.old) (E.bytes err.new) (E.faults err.old) (E.faults err.new) (line_of (codes "write fault: " ++ fault_text path n))
         × (out.new ≡ out.old)

@@ -14,3 +14,9 @@ returns-in-Err-clause-refused c r e = c.in-Err.ensures.refused r (ap Err (same_f
 
 pub returns-clause-ok : goal.returns-clause-ok
 returns-clause-ok c = none_refuses c.args.facts.now c.args.class.now c.args.snapshot.now (option_map (λ (r : Bor PathText). r.now) c.args.root) c.args.old.now c.args.new.now c.in_default.ensures.ok
+
+pub returns-clause-accepted : goal.returns-clause-accepted
+returns-clause-accepted c =
+    let root = option_map (λ (r : Bor PathText). r.now) c.args.root in
+    c.an_accepted_verdict_tells_of_each_fact.ensures.facts c.args.facts.now c.args.class.now c.args.snapshot.now root c.args.old.now c.args.new.now
+    (none_refuses c.args.facts.now c.args.class.now c.args.snapshot.now root c.args.old.now c.args.new.now c.in_default.ensures.ok)

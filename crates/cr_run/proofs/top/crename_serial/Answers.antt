@@ -50,7 +50,7 @@ returns-in-Some-clause-write_fault g c e =
           let plan = c.in-Ok.ensures.decided m.0 files m.1 told in
           let after = stop.2 files (c.in-Ok.ensures.reads.same ∙ told) in
           let writes = c.deref.ensures.value ∙ plan.2.writes in
-          (plan.0, (m.0, m.1, sym plan.1), after.0, after.1, half_written files plan.0 plan.2.edits plan.2.are plan.2.each plan.2.apart plan.0.in_place after.0 w stop.0 (ap (λ l. slice_get l stop.0) (sym writes) ∙ stop.1) (subst (λ ws. IsStopped stop.0 ws w files after.0) writes after.2)),
+          (plan.0, (m.0, m.1, sym plan.1), after.0, after.1, half_written files plan.0 plan.2.edits plan.2.are plan.2.each plan.2.apart plan.0.in_place after.0 w stop.0 refl (ap (λ l. slice_get l stop.0) (sym writes) ∙ stop.1) (subst (λ ws. IsStopped stop.0 ws w files after.0) writes after.2)),
     )
 
 pub returns-in-Done-clause-renamed : goal.returns-in-Done-clause-renamed

@@ -1,0 +1,16 @@
+pub mod AllDeclared
+pub mod AllMeant
+pub mod Asked
+pub mod Beside
+pub mod Bound
+pub mod Captured
+pub mod Covered
+pub mod Denied
+pub mod Keyed
+pub mod Lowest
+pub mod Meaning
+pub mod Mentioned
+pub mod Meeting
+pub mod Paired
+pub mod Tokened
+pub mod Topped

@@ -1,0 +1,13 @@
+use Rattle.std.proofs.Common.{arith, subst}
+use Rattle.std.proofs.lemmas.Option.{slice_get-get_or}
+use Rattle.cr_groups.specs.Firsts.{Notes}
+use Rattle.cr_groups.proofs.Noted.{one_noted}
+use Rattle.cr_conflicts.specs.Asks.{built_in_token}
+use Rattle.cr_conflicts.proofs.asks.built_ins_of.Goals as goal
+
+pub each-preserved : goal.each-preserved
+each-preserved c = (
+  omega (arith, c.each-test.true),
+  one_noted (built_in_token c.args.tokens.now c.args.names.old c.args.names.new) c.args.uses.now c.each.firsts.entries c.note_first.new.firsts.entries c.each.i _ (slice_get-get_or c.args.uses.now c.each.i _ c.each-test.true) c.each.invariant.1
+      (subst (λ z. Notes z c.each.i c.each.firsts.entries c.note_first.new.firsts.entries) c.built_in_in.ensures c.in_ok-note_first.ensures),
+)

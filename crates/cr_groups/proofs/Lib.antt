@@ -1,0 +1,12 @@
+pub mod Added
+pub mod Around
+pub mod Building
+pub mod Counted
+pub mod Grouped
+pub mod Inward
+pub mod Noted
+pub mod OneKey
+pub mod Seen
+pub mod Shown
+pub mod Tables
+pub mod Taken

@@ -1,0 +1,5 @@
+use Rattle.cr_groups.proofs.Tables.{found_after}
+use Rattle.cr_groups.proofs.build.put.Goals as goal
+
+pub returns : goal.returns
+returns c = found_after _ _ _ _ c.in_ok-insert.ensures.updates.0

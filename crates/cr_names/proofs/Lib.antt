@@ -1,0 +1,4 @@
+pub mod Doing
+pub mod Jumping
+pub mod Seen
+pub mod Staying

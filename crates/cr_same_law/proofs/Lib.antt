@@ -1,0 +1,4 @@
+pub mod Told
+pub mod Tags
+pub mod SameMeaning
+pub mod Asks

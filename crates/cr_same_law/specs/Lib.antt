@@ -1,0 +1,3 @@
+pub mod Told
+pub mod SameMeaning
+pub mod Asks
