@@ -1,5 +1,5 @@
 -- What one more call does to what a binder has seen.
-use Rattle.std.specs.Prelude.{◌≡◌, ℕ, Some, None, Ok, List, [], ◌∷◌, ◌++◌}
+use Rattle.std.specs.Prelude.{◌≡◌, ℕ, Some, None, Ok, Err, List, [], ◌∷◌, ◌++◌}
 use Rattle.cr_base.specs.declared.cause.IllCause.{IllCause}
 use Rattle.cr_grammar.specs.declared.symbols.NonTerm.{NonTerm}
 use Rattle.cr_grammar.specs.declared.symbols.Action.{Action}
@@ -7,15 +7,19 @@ use Rattle.cr_ll.specs.declared.state.Event.{Event}
 use Rattle.cr_ll.specs.declared.state.Event.TheVariants as event
 use Rattle.cr_ll.specs.Derivation.{Item, Passed, Due, Asked, Trees, Derives, events}
 use Rattle.cr_ll.specs.Laws.{unit}
+use Rattle.cr_ll.specs.Machine.{Config}
+use Rattle.cr_ll.specs.Machine as machine
 use Rattle.cr_binding.specs.Source.{Source}
 use Rattle.cr_binding.specs.Binding.{bound}
 use Rattle.cr_binding.specs.WellFormed.{terminals_of, IsWellFormed, IsIll}
 use Rattle.cr_known.specs.Known.{Known, known_first, known_open, known_close, known_pass, known_act, known_ask, unclosed}
 use Rattle.cr_nodes.specs.declared.nodes.Before.{Before}
 use Rattle.cr_nodes.specs.declared.nodes.Before.TheVariants as before
+use Rattle.cr_nodes.specs.declared.nodes.NodesFault.TheVariants.{Unfit}
 use Rattle.cr_nodes.specs.Advancing.{Advances}
 use Rattle.cr_nodes.specs.Moves.{OpenNodes, at_start, move, replied}
 use Rattle.cr_nodes.specs.Gathering.{Gathered, at_first, opening, closing, passing, acting, asking}
+use Rattle.cr_nodes.specs.Laws.{event_of}
 use Rattle.cr_walk.specs.Seen.{answer_here, Sees}
 
 -- at the start
@@ -25,6 +29,10 @@ BeginsSeen = (t : Source) → Sees t [] known_first at_start at_first
 -- a call with an event answered so
 abbrev pub Answers : Source → OpenNodes → Event → Before → OpenNodes → Type 0
 Answers t old x answer new = Advances (move (terminals_of t) old) old x (Ok answer) new
+
+-- a call with an event is unfit
+abbrev pub Refuses : Source → OpenNodes → Event → OpenNodes → Type 0
+Refuses t old x new = Advances (move (terminals_of t) old) old x (Err Unfit) new
 
 -- A node is opened, or closed, before an event.
 abbrev pub OpensAreSeen : Type 0
@@ -84,3 +92,17 @@ TreesAreBound =
     (t : Source) (es : List Item) (k : Known) (c d : OpenNodes) (g : Gathered) (tree : Trees) (j : ℕ)
     → Sees t es k c g → Answers t c event.Done before.Nothing d → Derives (terminals_of t) tree 0 unit j → events tree ≡ es
     → IsWellFormed t tree × (k.state ≡ unclosed (bound t tree))
+
+-- No call is unfit that is given the next event which the machine of the grammar gives after these,
+abbrev pub EventsFit : Type 0
+EventsFit =
+    (t : Source) (es more : List Item) (next : Item) (k : Known) (c d : OpenNodes) (g : Gathered) (m : Config)
+    → Sees t es k c g → machine.Run (terminals_of t) (machine.at 0 unit) (es ++ next ∷ more) m
+    → Refuses t c (event_of (next ∷ more)) d → ⊥
+
+-- or the end, where the machine has come to it.
+abbrev pub EndFits : Type 0
+EndFits =
+    (t : Source) (es : List Item) (k : Known) (c d : OpenNodes) (g : Gathered) (m : Config)
+    → Sees t es k c g → machine.Run (terminals_of t) (machine.at 0 unit) es m → machine.move (terminals_of t) m ≡ machine.Ends
+    → Refuses t c event.Done d → ⊥

@@ -2,12 +2,14 @@
 //! a fault that of an ill-formed one. The functions do nothing: their contracts are laws.
 #![tactic(auto)]
 
-ghost use Rattle.cr_walk.specs.Laws.{BeginsSeen, OpensAreSeen, ClosesAreSeen, TokensAreSeen, ActionsAreSeen, AsksAreSeen, TokensAreIll, ActionsAreIll, EndIsBound, TreesAreBound};
+ghost use Rattle.cr_walk.specs.Laws.{BeginsSeen, OpensAreSeen, ClosesAreSeen, TokensAreSeen, ActionsAreSeen, AsksAreSeen, TokensAreIll, ActionsAreIll, EndIsBound, TreesAreBound, EventsFit, EndFits};
 ghost use Rattle.cr_known.specs.Laws.{SoundStepsBind, FaultsAreOfCutTrees};
 ghost use Rattle.cr_nodes.specs.Laws.{CallsAreRuns, RunsJoin, RunsDerive, RunsBegin, AsksComeBeforeNodes, AllStepsAreMade};
 
 use cr_known::{faults_are_of_cut_trees, sound_steps_bind};
-use cr_nodes::{asks_come_before_nodes, calls_are_a_run, runs_are_of_trees, steps_are_a_trees};
+use cr_nodes::{
+    asks_come_before_nodes, calls_are_a_run, runs_are_of_trees, steps_are_a_trees, the_machine_fits,
+};
 
 // The laws of open nodes, and of what is kept of them.
 fn lower_laws()
@@ -55,4 +57,12 @@ pub fn ends_are_bound()
     ensures trees { TreesAreBound }
 {
     lower_laws();
+}
+
+/// The events that the machine of the grammar gives, and its end, are never unfit.
+pub fn events_fit()
+    ensures events { EventsFit }
+    ensures end { EndFits }
+{
+    the_machine_fits();
 }
