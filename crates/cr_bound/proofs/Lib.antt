@@ -1,0 +1,4 @@
+pub mod Declares
+pub mod Lenses
+pub mod Reading
+pub mod Scopes

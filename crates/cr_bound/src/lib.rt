@@ -1,0 +1,13 @@
+//! What is bound of a translation unit but for its operands and initialisers: one call for each action of the grammar
+//! (C11 6.2, 6.7, 6.8).
+#![tactic(auto)]
+
+mod bound;
+mod declaring;
+mod pending;
+mod place;
+mod scoping;
+mod words;
+
+pub use bound::Bound;
+pub use pending::Pending;
