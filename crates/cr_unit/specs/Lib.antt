@@ -1,0 +1,2 @@
+pub mod Preprocessing
+pub mod Converting
