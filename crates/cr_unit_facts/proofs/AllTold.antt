@@ -1,5 +1,5 @@
 -- What is added for a unit is what it tells.
-use Rattle.std.proofs.Common.{◌≡◌, ◌⊎◌, inl, inr, ℕ, Bool, true, false, List, length, map, refl, sym, ap, subst, ◌∙◌, true≢false}
+use Rattle.std.proofs.Common.{◌≡◌, ◌⊎◌, inl, inr, ℕ, true, false, List, length, map, sym, subst, ◌∙◌, true≢false}
 use Rattle.std.specs.Prelude.{◌↔◌}
 use Rattle.std.specs.FinSet.{contains, empty, contains-empty}
 use Rattle.cr_base.specs.declared.token.Name.{Name}
@@ -10,11 +10,8 @@ use Rattle.cr_binding.specs.State.{State}
 use Rattle.cr_binding.specs.UnitFacts.{Tells}
 use Rattle.cr_declared.specs.declared.rows.Row.{Row}
 use Rattle.cr_declared.specs.declared.rows.UseRow.{UseRow}
-use Rattle.cr_declared.specs.declared.rows.Slot.{Slot}
 use Rattle.cr_declared.specs.Rows.{entry_of, AreRows, AreApart, AreFormed}
-use Rattle.cr_groups.specs.declared.groups.Group.{Group}
 use Rattle.cr_groups.specs.Adding.{Adds, OfFirst}
-use Rattle.cr_groups.specs.Built.{IsBuilt}
 use Rattle.cr_groups.specs.Firsts.{AreFirsts}
 use Rattle.cr_groups.specs.Rows.{AreGroups, AreSound, AreShown}
 use Rattle.cr_groups.proofs.Added.{adds_same, adds_both}
@@ -23,7 +20,7 @@ use Rattle.cr_groups.proofs.Shown.{Views, AreWell, views, well}
 use Rattle.cr_conflicts.specs.Meant.{IsOfUnit}
 use Rattle.cr_conflicts.specs.Members.{AreMembers}
 use Rattle.cr_conflicts.specs.declared.members.MemberRow.{MemberRow}
-use Rattle.cr_unit_facts.specs.Meant.{declared_in, members_in, used_in, AnyTells, AnyIsNew}
+use Rattle.cr_unit_facts.specs.Meant.{declared_in, members_in, used_in, AnyTells}
 use Rattle.cr_unit_facts.specs.Occurring.{linked_nature}
 use Rattle.cr_unit_facts.specs.Whole.{AreTables, RowsTell}
 use Rattle.cr_unit_facts.specs.declared.facts.Tables.{Tables}

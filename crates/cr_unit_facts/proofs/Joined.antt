@@ -1,5 +1,5 @@
 -- What is told in parts is what a unit tells.
-use Rattle.std.proofs.Common.{◌≡◌, ◌⊎◌, inl, inr, ℕ, zero, suc, ◌<◌, ◌≤◌, Bool, true, false, Option, Some, None, List, [], ◌∷◌, ◌++◌, length, refl, sym, ap, subst, ◌∙◌, arith, true≢false}
+use Rattle.std.proofs.Common.{◌≡◌, ◌⊎◌, inl, inr, ℕ, zero, suc, Bool, true, false, Option, Some, None, List, [], ◌∷◌, ◌++◌, length, refl, sym, ap, subst, ◌∙◌, true≢false}
 use Rattle.std.specs.Prelude.{slice_get, slice_index_or, is_some, Contains, MatchOption}
 use Rattle.std.proofs.lemmas.Option.{slice_get_within}
 use Rattle.std.proofs.lemmas.List.Elements.{Contains-append_left, Contains-append_right, Contains-append_cases}
@@ -8,26 +8,22 @@ use Rattle.cr_base.specs.declared.token.Place.{Place}
 use Rattle.cr_base.specs.declared.token.Origin.{Origin}
 use Rattle.cr_base.specs.declared.token.Origin.TheVariants.{At, Made}
 use Rattle.cr_base.specs.declared.token.Tok.{Tok}
-use Rattle.cr_base.specs.declared.cause.Role.{Role}
 use Rattle.cr_base.specs.declared.cause.Role.TheVariants as role
-use Rattle.cr_base.specs.declared.key.Key.{Key}
-use Rattle.cr_base.specs.declared.key.Kind.{Kind}
 use Rattle.cr_ll.specs.Guards.{is_name}
-use Rattle.cr_facts.specs.FactOrder.{Facts}
 use Rattle.cr_facts.specs.declared.fact.Fact.{Fact}
 use Rattle.cr_facts.specs.declared.fact.Fact.TheVariants as fact
 use Rattle.cr_binding.specs.Source.{Source, no_token, name_at, token_of, is_identifier}
 use Rattle.cr_binding.specs.State.{State}
 use Rattle.cr_binding.specs.Resolution.{Occurrence, declaring, occurrences}
 use Rattle.cr_binding.specs.Keys.{key_of}
-use Rattle.cr_binding.specs.UnitConflicts.{place_by, place_at}
-use Rattle.cr_binding.specs.UnitFacts.{HasKind, IsAtFileScope, is_shared, IsPlaced, IsHidden, IsFinal, Denotes, Tells}
+use Rattle.cr_binding.specs.UnitConflicts.{place_at}
+use Rattle.cr_binding.specs.UnitFacts.{HasKind, IsAtFileScope, is_shared, IsPlaced, IsHidden, Denotes, Tells}
 use Rattle.cr_groups.specs.Firsts.{find_number, IsFirstOf, NoneOf, AreFirsts}
 use Rattle.cr_groups.specs.Rows.{IsOneOf}
 use Rattle.cr_conflicts.specs.Meant.{IsOfUnit}
 use Rattle.cr_conflicts.proofs.Mentioned.{at, from_at}
 use Rattle.cr_unit_facts.specs.Meant.{declared_in, members_in, used_in, OccurrenceTells, AnyTells, AnyIsNew}
-use Rattle.cr_unit_facts.specs.Occurring.{SaysAt, SaysBy, Says}
+use Rattle.cr_unit_facts.specs.Occurring.{SaysAt, SaysBy}
 use Rattle.cr_unit_facts.specs.Telling.{role_of, RoleAt, SpelledTells, TokensTell, is_noted, itself}
 
 -- ---- hidden tokens

@@ -1,13 +1,12 @@
 -- The nature of what a row of the old name declares is that of what is declared.
-use Rattle.std.proofs.Common.{◌≡◌, ◌⊎◌, inl, inr, ℕ, zero, suc, ◌<◌, ◌≤◌, Bool, true, false, ◌&&◌, ◌||◌, eqb, cond, Option, Some, None, List, [], ◌∷◌, length, map, refl, sym, ap, subst, ◌∙◌, arith, true≢false}
+use Rattle.std.proofs.Common.{◌≡◌, ◌⊎◌, inl, inr, ℕ, Bool, true, false, ◌&&◌, ◌||◌, eqb, cond, Option, Some, None, List, [], ◌∷◌, refl, sym, ap, subst, ◌∙◌, arith, true≢false}
 use Rattle.std.specs.Prelude.{slice_get, position, is_some, if◌then◌else◌, Contains}
 use Rattle.std.proofs.lemmas.Bool.{eqb-true, eq-eqb, cases_lt}
 use Rattle.cr_base.specs.declared.token.Name.{Name}
 use Rattle.cr_base.specs.declared.key.Kind.{Kind}
 use Rattle.cr_base.specs.declared.key.Kind.TheVariants as kind
-use Rattle.cr_scope.specs.declared.Space.{Space}
 use Rattle.cr_scope.specs.declared.Space.TheVariants as space
-use Rattle.cr_scope.specs.Declarations.{Entry, same_space, same_name}
+use Rattle.cr_scope.specs.Declarations.{Entry, same_name}
 use Rattle.cr_scope.specs.Linkage.{has_linkage, is_file_scope}
 use Rattle.cr_scope.specs.Redeclaration.{same_path}
 use Rattle.cr_scope.proofs.Paths.{and_both}
@@ -16,7 +15,6 @@ use Rattle.cr_binding.specs.State.{Declaration, State}
 use Rattle.cr_binding.specs.Entities.{entry, is_linked, is_tag, is_typedef, is_typedef_kind, are_one}
 use Rattle.cr_binding.specs.Resolution.{Declared}
 use Rattle.cr_binding.specs.UnitFacts.{HasKind, IsAtFileScope}
-use Rattle.cr_paths.specs.Paths.{path_at}
 use Rattle.cr_declared.specs.declared.rows.Row.{Row}
 use Rattle.cr_declared.specs.declared.rows.UseRow.{UseRow}
 use Rattle.cr_declared.specs.Rows.{entry_of, is_tag_kind, is_linked_kind, AreRows}

@@ -1,19 +1,16 @@
 -- What is said of an entity, in its parts.
-use Rattle.std.proofs.Common.{◌≡◌, ◌⊎◌, inl, inr, ℕ, Bool, true, false, Option, Some, None, List, refl, sym, ap, subst, ◌∙◌}
-use Rattle.std.specs.Prelude.{slice_index_or}
+use Rattle.std.proofs.Common.{◌≡◌, ◌⊎◌, inl, inr, Bool, true, sym, subst}
 use Rattle.cr_base.specs.declared.token.Place.{Place}
 use Rattle.cr_base.specs.declared.token.Origin.{Origin}
 use Rattle.cr_base.specs.declared.token.Origin.TheVariants.{At, Made}
-use Rattle.cr_base.specs.declared.token.Tok.{Tok}
 use Rattle.cr_base.specs.declared.key.Key.{Key}
-use Rattle.cr_base.specs.declared.key.Kind.{Kind}
 use Rattle.cr_facts.specs.FactOrder.{Facts}
 use Rattle.cr_facts.specs.declared.fact.Fact.{Fact}
 use Rattle.cr_facts.specs.declared.fact.Fact.TheVariants as fact
 use Rattle.cr_groups.specs.Adding.{Adds}
 use Rattle.cr_groups.proofs.Added.{adds_same, adds_both}
 use Rattle.cr_unit_facts.specs.declared.nature.Nature.{Nature}
-use Rattle.cr_unit_facts.specs.Occurring.{IsOfNature, SaysAt, SaysBy, Says, KindSays, NatureSays, PlaceSays}
+use Rattle.cr_unit_facts.specs.Occurring.{IsOfNature, SaysAt, SaysBy, KindSays, NatureSays}
 
 module _ (k : Key) (n : Nature) where
   pub nature_said : (a b c d : Facts) → Adds a b (KindSays k n.kind) → Adds b c (KindSays k n.other) → Adds c d (λ f. (n.file_scope ≡ true) × (f ≡ fact.FileScope k)) → Adds a d (NatureSays k n)

@@ -1,10 +1,9 @@
 -- The member that is noted for a token is what is selected.
-use Rattle.std.proofs.Common.{◌≡◌, ◌⊎◌, ℕ, false, Option, Some, List, length, refl, sym, ap, subst, ◌∙◌}
+use Rattle.std.proofs.Common.{◌≡◌, ℕ, false, Option, Some, List, length, sym, ap, subst, ◌∙◌}
 use Rattle.std.specs.Prelude.{slice_get}
 use Rattle.cr_base.specs.declared.token.Tok.{Tok}
 use Rattle.cr_base.specs.declared.key.Key.{Key}
 use Rattle.cr_facts.specs.FactOrder.{Facts}
-use Rattle.cr_facts.specs.declared.fact.Fact.{Fact}
 use Rattle.cr_declared.specs.declared.rows.Row.{Row}
 use Rattle.cr_groups.specs.Adding.{Adds}
 use Rattle.cr_groups.specs.Firsts.{find_number, IsFirstOf, AreFirsts}

@@ -1,6 +1,6 @@
 -- What the rows tell of identifiers is what is meant.
-use Rattle.std.proofs.Common.{◌≡◌, ◌⊎◌, inl, inr, ℕ, zero, suc, ◌<◌, ◌≤◌, Bool, true, false, ◌&&◌, eqb, cond, Option, Some, None, List, [], ◌∷◌, ◌++◌, length, map, refl, sym, ap, subst, ◌∙◌, arith, true≢false}
-use Rattle.std.specs.Prelude.{slice_get, slice_index_or, Contains, MatchOption}
+use Rattle.std.proofs.Common.{◌≡◌, ◌⊎◌, inl, inr, ℕ, zero, suc, ◌<◌, ◌≤◌, Bool, true, false, ◌&&◌, eqb, cond, Option, Some, None, List, [], ◌∷◌, length, refl, sym, ap, subst, ◌∙◌, arith, true≢false}
+use Rattle.std.specs.Prelude.{slice_get, Contains}
 use Rattle.std.specs.List.{find}
 use Rattle.std.proofs.lemmas.Bool.{eqb-true, eq-eqb, cases_lt}
 use Rattle.std.proofs.lemmas.Option.{slice_get_within}
@@ -14,19 +14,17 @@ use Rattle.cr_base.specs.declared.key.Key.TheVariants as key
 use Rattle.cr_base.specs.declared.key.Kind.{Kind}
 use Rattle.cr_base.specs.declared.key.Kind.TheVariants as kind
 use Rattle.cr_scope.specs.declared.Space.{Space}
-use Rattle.cr_scope.specs.Declarations.{Entry, same_name}
+use Rattle.cr_scope.specs.Declarations.{Entry}
 use Rattle.cr_scope.proofs.Paths.{and_both}
-use Rattle.cr_facts.specs.FactOrder.{Facts}
 use Rattle.cr_facts.specs.declared.fact.Fact.{Fact}
 use Rattle.cr_facts.specs.declared.fact.Fact.TheVariants as fact
 use Rattle.cr_binding.specs.Source.{Source, name_at, token_of}
-use Rattle.cr_binding.specs.State.{Declaration, Member, Use, LookedUp, GoesTo, Selects, IsBuiltIn, IsParameter, WasAsked, State}
+use Rattle.cr_binding.specs.State.{Declaration, Member, Use, Selects, IsBuiltIn, State}
 use Rattle.cr_binding.specs.Declaring.{declaration_at}
 use Rattle.cr_binding.specs.Entities.{entry}
-use Rattle.cr_binding.specs.Resolution.{Thing, Declared, InRecord, BuiltIn, Occurrence, own_members, means_declared, means_member, meant_by}
+use Rattle.cr_binding.specs.Resolution.{Declared, InRecord, BuiltIn, Occurrence, own_members, means_declared, means_member, meant_by}
 use Rattle.cr_binding.specs.Keys.{declaration_key, member_key, key_of}
 use Rattle.cr_binding.specs.UnitFacts.{HasKind, IsAtFileScope, is_shared}
-use Rattle.cr_paths.specs.Paths.{path_at}
 use Rattle.cr_declared.specs.declared.rows.Row.{Row}
 use Rattle.cr_declared.specs.declared.rows.UseRow.{UseRow}
 use Rattle.cr_declared.specs.declared.rows.UseRow.TheVariants as row
@@ -34,11 +32,10 @@ use Rattle.cr_declared.specs.declared.rows.Slot.{Slot}
 use Rattle.cr_declared.specs.Rows.{entry_of, slot_of, AreRows}
 use Rattle.cr_groups.specs.declared.groups.Group.{Group}
 use Rattle.cr_groups.specs.Groups.{find_group}
-use Rattle.cr_groups.specs.Adding.{Adds, OfFirst}
-use Rattle.cr_groups.specs.Firsts.{IsFirstOf}
+use Rattle.cr_groups.specs.Adding.{OfFirst}
 use Rattle.cr_groups.specs.Rows.{name_in, use_of, IsSound, IsOneOf, AreGroups}
 use Rattle.cr_groups.proofs.Building.{slot_itself}
-use Rattle.cr_groups.proofs.Grouped.{both, row_both, names_same, find_at}
+use Rattle.cr_groups.proofs.Grouped.{both, row_both, find_at}
 use Rattle.cr_groups.proofs.Shown.{Views, AreWell}
 use Rattle.cr_groups.proofs.Taken.{mapped, to_mapped}
 use Rattle.cr_conflicts.specs.Members.{row_of, AreMembers, member_key_in}
@@ -49,7 +46,7 @@ use Rattle.cr_conflicts.proofs.Mentioned.{at, from_at}
 use Rattle.cr_unit_facts.specs.declared.nature.Nature.{Nature}
 use Rattle.cr_unit_facts.specs.Meant.{declared_in, members_in, used_in, OccurrenceTells, AnyTells, AnyIsNew}
 use Rattle.cr_unit_facts.specs.Occurring.{IsOfNature, SaysAt, SaysBy, Says, TokenSays, linked_nature, nature_of}
-use Rattle.cr_unit_facts.specs.Telling.{RowTells, NewTells, DeclaredTells, member_nature, no_nature, NamedTells, MemberTells, own_token, DenotedTells, SelectedTells, UseTells}
+use Rattle.cr_unit_facts.specs.Telling.{RowTells, DeclaredTells, member_nature, no_nature, MemberTells, own_token, DenotedTells, SelectedTells, UseTells}
 use Rattle.cr_unit_facts.proofs.Lists.{in_map, to_map, in_flat, to_flat, in_filter, to_filter, find_filter}
 use Rattle.cr_unit_facts.proofs.Natured.{kind_from, kind_to, scope_from, scope_to}
 

@@ -1,7 +1,6 @@
 -- What identifiers of the old name tell, and entities of the new one, as binding means it.
-use Rattle.std.specs.Prelude.{◌≡◌, ◌⊎◌, ℕ, Bool, true, List, [], ◌∷◌, ◌++◌, map, flat_map, Contains}
+use Rattle.std.specs.Prelude.{◌≡◌, ℕ, Bool, true, List, map, flat_map, Contains}
 use Rattle.cr_base.specs.declared.token.Name.{Name}
-use Rattle.cr_base.specs.declared.key.Key.{Key}
 use Rattle.cr_facts.specs.declared.fact.Fact.{Fact}
 use Rattle.cr_facts.specs.declared.fact.Fact.TheVariants as fact
 use Rattle.cr_binding.specs.Source.{Source, token_of, name_at}

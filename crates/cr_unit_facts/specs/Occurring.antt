@@ -1,5 +1,5 @@
 -- What is told of an identifier that means an entity.
-use Rattle.std.specs.Prelude.{◌≡◌, ◌⊎◌, ℕ, Bool, true, false, ◌&&◌, eqb, if◌then◌else◌, cond, Option, Some, None, List, slice_get, slice_index_or, position, is_some}
+use Rattle.std.specs.Prelude.{◌≡◌, ◌⊎◌, ℕ, Bool, true, false, ◌&&◌, eqb, if◌then◌else◌, cond, Option, Some, None, List, slice_index_or, position, is_some}
 use Rattle.cr_base.specs.declared.token.Name.{Name}
 use Rattle.cr_base.specs.declared.token.Place.{Place}
 use Rattle.cr_base.specs.declared.token.Origin.{Origin}

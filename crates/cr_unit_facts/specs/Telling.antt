@@ -1,7 +1,6 @@
 -- What the rows of a unit tell of its identifiers.
-use Rattle.std.specs.Prelude.{◌≡◌, ◌⊎◌, ℕ, ◌<◌, Bool, true, false, eqb, cond, Option, Some, None, List, length, slice_get, slice_index_or, is_some}
+use Rattle.std.specs.Prelude.{◌≡◌, ◌⊎◌, ℕ, ◌<◌, Bool, true, false, eqb, cond, Option, Some, None, List, length, slice_get, is_some}
 use Rattle.cr_base.specs.declared.token.Name.{Name}
-use Rattle.cr_base.specs.declared.token.Place.{Place}
 use Rattle.cr_base.specs.declared.token.Origin.{Origin}
 use Rattle.cr_base.specs.declared.token.Origin.TheVariants.{At, Made}
 use Rattle.cr_base.specs.declared.token.Tok.{Tok}
@@ -13,7 +12,6 @@ use Rattle.cr_base.specs.declared.key.Kind.TheVariants as kind
 use Rattle.cr_ll.specs.Guards.{is_name}
 use Rattle.cr_facts.specs.declared.fact.Fact.{Fact}
 use Rattle.cr_facts.specs.declared.fact.Fact.TheVariants as fact
-use Rattle.cr_binding.specs.Source.{no_token}
 use Rattle.cr_binding.specs.UnitConflicts.{place_by}
 pub use Rattle.cr_binding.specs.UnitFacts.{is_shared}
 use Rattle.cr_declared.specs.declared.rows.Row.{Row}

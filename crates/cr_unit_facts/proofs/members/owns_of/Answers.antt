@@ -1,4 +1,4 @@
-use Rattle.std.proofs.Common.{◌<◌, ◌≤◌, ◌+◌, length, arith, subst}
+use Rattle.std.proofs.Common.{arith, subst}
 use Rattle.std.proofs.lemmas.Option.{slice_get-get_or}
 use Rattle.cr_groups.specs.Firsts.{Notes}
 use Rattle.cr_groups.proofs.Noted.{one_noted}

@@ -1,4 +1,4 @@
-use Rattle.std.proofs.Common.{◌<◌, ◌≤◌, ◌+◌, length, arith}
+use Rattle.std.proofs.Common.{arith}
 use Rattle.std.proofs.lemmas.Option.{slice_get-get_or}
 use Rattle.cr_unit_facts.specs.Telling.{is_noted}
 use Rattle.cr_unit_facts.proofs.Spelled.{one_more_token}
