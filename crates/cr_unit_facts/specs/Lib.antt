@@ -1,0 +1,4 @@
+pub mod Meant
+pub mod Occurring
+pub mod Telling
+pub mod Whole
