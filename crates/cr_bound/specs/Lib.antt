@@ -2,6 +2,8 @@ pub mod Bound
 pub mod Declaring
 pub mod Kept
 pub mod Making
+pub mod Mentions
 pub mod Pending
 pub mod Scoping
+pub mod Tags
 pub mod Words

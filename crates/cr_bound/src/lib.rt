@@ -4,9 +4,12 @@
 
 mod bound;
 mod declaring;
+mod members;
+mod mentions;
 mod pending;
 mod place;
 mod scoping;
+mod tags;
 mod words;
 
 pub use bound::Bound;
