@@ -30,9 +30,9 @@ use Rattle.cr_names.specs.Kept.{KnownNames, IsOf}
 use Rattle.cr_names.specs.Names as names
 use Rattle.cr_names.specs.Names.{HasTokens, IsNamed, IsMeaning, IsTagHere, IsDeclaration, Refuses, with_names, declared_as, declaration_of}
 use Rattle.cr_bound.specs.declared.bound.Bound.{Bound}
-use Rattle.cr_bound.specs.Kept.{kind_by, number, with_pending, with_place, with_bound, IsTyped, AreSpelled}
+use Rattle.cr_bound.specs.Kept.{kind_by, number, pending_by, with_pending, with_place, with_bound, IsTyped, AreSpelled}
 use Rattle.cr_bound.specs.Bound.{Any, Does, DoesWith, Fails, FailsWith, StaysWith}
-use Rattle.cr_bound.specs.Tags.{tagged, type_or_new, announcing, tagging, tag_alone_here, tag_completed, tag_used, using}
+use Rattle.cr_bound.specs.Tags.{tagged, type_or_new, announcing, tagging, tag_alone_here, tag_completed, tag_used, untagged_at, using}
 use Rattle.cr_bound.proofs.Lenses.{rest, refuses_on, base_stays, filled_stays, basics_stay, pending_stays}
 
 -- ---- a tag is declared with a type
@@ -320,3 +320,19 @@ record_pending i s = by (is_record_kind s.keyword)
     by : (b : Bool) → (if b then recorded (record { token = i; is_union = is_union_kind s.keyword }) s else s).pending ≡ s.pending
     by true = refl
     by false = refl
+
+pub untagged_does : (t u : Table) (b mid : Bound) (n : TypeNo) (v : Bool) (i : ℕ) (c : Bound) → ((s : State) → type_at u n ≡ new_type (with_bound t b s)) → v ≡ is_record_kind (kind_by b.place.keyword)
+    → mid.pending ≡ b.pending → Does Any t b (λ _. announcing None i) u mid
+    → Does Any u (record mid { pending = record mid.pending { base = Some n; is_untagged = v } }) (λ _. filling) u c → Does Any t b (λ _. untagged_at i) u c
+untagged_does t u b mid n v i c meant e same d f = record {
+  state = λ source s p sound spelled.
+      f.state source s tt sound (d.spelled source tt spelled)
+      ∙ ap filling
+      ((λ j. record (d.state source s tt sound spelled j) { pending = pending_by u (record (same j) { base = Some n; is_untagged = v }) })
+      ∙ (λ j. record (with_record i (with_bound t b s)) { pending = record { specifiers = b.pending.specifiers; last_basic = b.pending.last_basic; base = Some (meant s j); is_untagged = e j; name = b.pending.name; parameters = b.pending.parameters } })
+      ∙ sym (record_below_pending (record { specifiers = b.pending.specifiers; last_basic = b.pending.last_basic; base = Some (new_type (with_bound t b s)); is_untagged = is_record_kind (kind_by b.place.keyword); name = b.pending.name; parameters = b.pending.parameters }) i (with_bound t b s)));
+  spelled = λ source p h. f.spelled source tt (d.spelled source tt h);
+}
+
+pub brace_typed : (u : Table) (mid : Bound) (n : TypeNo) (v : Bool) → IsTyped u mid → IsTypeNo u n → IsTyped u (record mid { pending = record mid.pending { base = Some n; is_untagged = v } })
+brace_typed u mid n v h given = record { names = h.names; records = h.records; base = given; filled = h.filled; basics = h.basics }

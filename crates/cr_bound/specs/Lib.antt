@@ -2,6 +2,7 @@ pub mod Bound
 pub mod Declaring
 pub mod Kept
 pub mod Making
+pub mod Members
 pub mod Mentions
 pub mod Pending
 pub mod Scoping

@@ -40,6 +40,12 @@ fn type_of(found: Option<Typed>) -> Option<TypeNo>
     }
 }
 
+fn is_record(keyword: TagKind) -> bool
+    ensures { result ≡ is_record_kind (kind_by keyword) }
+{
+    matches!(keyword, TagKind::Struct | TagKind::Union)
+}
+
 // The first token of a tag that has a declaration here, or else this one.
 fn first_token(found: Option<Typed>, token: u32) -> u32
     ensures { (t : Table) (paths : List (List ℕ)) → token_or token (option_map (declaration_of t paths) found) ≡ result }
@@ -92,6 +98,8 @@ impl Bound {
         ensures ok { OnOk result (Does Any types.old self.old (λ _. announcing (option_map (type_at types.old) here) token) types.new self.new) }
         ensures typed { IsTyped types.new self.new }
         ensures completed { OnOk result (self.new.records.completed ≡ self.old.records.completed) }
+        ensures pending { self.new.pending ≡ self.old.pending }
+        ensures keyword { self.new.place ≡ self.old.place }
         ensures keeps { Keeps types.old types.new }
     {
         names_stay();
@@ -217,5 +225,20 @@ impl Bound {
                 Ok(())
             }
         }
+    }
+
+    /// A brace at a token in the place of a tag: a new structure, union or enumeration, whose members follow (action
+    /// `Anon`).
+    pub fn untagged(&mut self, types: &mut Types, brace: u32) -> Result<(), OutOfMemory>
+        requires { IsTyped types.old self.old }
+        ensures ok { OnOk result (Does Any types.old self.old (λ _. untagged_at brace) types.new self.new) }
+        ensures typed { IsTyped types.new self.new }
+        ensures keeps { Keeps types.old types.new }
+    {
+        let ty = self.tag_type(types, None, brace)?;
+        self.pending.base = Some(ty);
+        self.pending.is_untagged = is_record(self.place.keyword);
+        self.fill(types);
+        Ok(())
     }
 }
