@@ -116,7 +116,7 @@ module _ (t u : Table) (b : Bound) (k : Kind) (i : ℕ) (r : RecordTable) (typed
   with_announced = record b { records = r }
 
   pub announced_typed : AreOf u r → IsTyped u with_announced
-  announced_typed of = record { names = n.0; records = of; base = base_stays t u b keeps b.pending.base typed.base; filled = filled_stays t u b keeps b.place.filled typed.filled; basics = basics_stay t u b keeps b.basics typed.basics }
+  announced_typed of = record { names = n.0; records = of; base = base_stays t u keeps b.pending.base typed.base; filled = filled_stays t u keeps b.place.filled typed.filled; basics = basics_stay t u b keeps b.basics typed.basics }
 
   module _ (does : (s : State) → s.keyword ≡ k → with_records u r s ≡ with_record i (with_records t b.records s)) where
     pub announced_does : ((source : Source) → AreRecordsSpelled source b.records → AreRecordsSpelled source r) → (o : Option TypeNo) → o ≡ None → Does Any t b (λ _. announcing (option_map (type_at t) o) i) u with_announced

@@ -5,6 +5,7 @@ pub mod Making
 pub mod Members
 pub mod Mentions
 pub mod Pending
+pub mod Saving
 pub mod Scoping
 pub mod Tags
 pub mod Words

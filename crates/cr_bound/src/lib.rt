@@ -8,9 +8,11 @@ mod members;
 mod mentions;
 mod pending;
 mod place;
+mod saved;
 mod scoping;
 mod tags;
 mod words;
 
 pub use bound::Bound;
 pub use pending::Pending;
+pub use saved::{Saved, saved_stay};
