@@ -8,29 +8,31 @@ use Rattle.cr_base.specs.declared.Kind.TheVariants as kind
 use Rattle.cr_scope.specs.declared.Decl.{Decl}
 use Rattle.cr_scope.specs.declared.Linkage.{Linkage}
 use Rattle.cr_scope.specs.declared.Linkage.TheVariants as linkage
+use Rattle.cr_scope.specs.declared.Space.{Space}
 use Rattle.cr_scope.specs.declared.Space.TheVariants as space
 use Rattle.cr_decl.specs.declared.SpecWord.TheVariants as word
 use Rattle.cr_scope.specs.Declarations.{Entry}
 use Rattle.cr_types.specs.declared.Part.{Part}
 use Rattle.cr_types.specs.declared.TypeNo.{TypeNo}
 use Rattle.cr_types.specs.Types.{CType, Table, IsTypeNo, type_at}
-use Rattle.cr_declared.specs.Rows.{IsFormed}
+use Rattle.cr_typing.specs.ExpressionTypes.{decayed}
+use Rattle.cr_declared.specs.Rows.{IsFormed, is_tag_kind}
 use Rattle.cr_binding.specs.Source.{Source, name_at}
-use Rattle.cr_binding.specs.State.{Declaration, State}
+use Rattle.cr_binding.specs.State.{Declaration, IsParameter, State}
 use Rattle.cr_binding.specs.Entities.{entry}
-use Rattle.cr_binding.specs.Declaring.{has_word, is_function_type, is_internal, looked_up, kind_of, linkage_for, linkage_seen, declaration, declaration_at, declare, declare_as, declare_named, meaning_here}
+use Rattle.cr_binding.specs.Declaring.{has_word, is_function_type, is_internal, looked_up, kind_of, linkage_for, linkage_seen, declaration, declaration_at, declare, declare_as, declare_named, declare_parameter, used, meaning_here}
 use Rattle.cr_names.specs.declared.fault.BindFault.{BindFault}
 use Rattle.cr_names.specs.declared.names.Typed.{Typed}
-use Rattle.cr_names.specs.Kept.{KnownNames}
+use Rattle.cr_names.specs.Kept.{KnownNames, IsOf}
 use Rattle.cr_names.specs.Names as names
 use Rattle.cr_names.specs.Names.{HasTokens, IsNamed, IsMeaning, IsDeclaration, Refuses, declared_as, declaration_of}
 use Rattle.cr_bound.specs.declared.bound.Bound.{Bound}
 use Rattle.cr_bound.specs.Kept.{with_bound, IsTyped, AreSpelled}
-use Rattle.cr_bound.specs.Bound.{Does, Fails, Grows, declaring, type_by}
-use Rattle.cr_bound.specs.Declaring.{declaring_typed, IsLinkage, linkage_in, seeing}
+use Rattle.cr_bound.specs.Bound.{Does, DoesAny, DoesWith, Fails, FailsAny, FailsWith, StaysTyped, StaysWith, Grows, declaring, declaring_parameter, type_by}
+use Rattle.cr_bound.specs.Declaring.{declaring_typed, parameter_typed, enumerating, IsLinkage, linkage_in, seeing}
 use Rattle.cr_bound.specs.Making.{made, IsMade}
 use Rattle.cr_bound.specs.declared.declaring.Making.{Making}
-use Rattle.cr_bound.proofs.Lenses.{rest, names_do_as, refuses_on}
+use Rattle.cr_bound.proofs.Lenses.{rest, names_do_as, names_refuse_as, refuses_on}
 
 -- ---- two changes of the names
 
@@ -52,6 +54,11 @@ both_failed P x y f g z m = refuses_on z (names.Fails P y g) (names.Fails P x (�
 pub seen_moves : (x y : KnownNames) (takes : Bool) (i : ℕ) (k : Option ℕ) → not takes ≡ false → names.Moves x (looked_up space.Ordinary i k) y → names.Moves x (seeing takes i k) y
 seen_moves x y true i k e m = m
 seen_moves x y false i k e m = cc
+
+-- a fault with the number of a type, at the type
+pub with_fails : (n : TypeNo) (P : Source → Type 0) (b : Bound) (f : CType → Source → State → State) (u : Table) → IsTyped u b → IsTypeNo u n → (z : BindFault)
+    → Refuses z (FailsWith n P b f) → Refuses z (Fails P u b (f (type_at u n)))
+with_fails n P b f u typed given z = refuses_on z (FailsWith n P b f) (Fails P u b (f (type_at u n))) (λ c i h. h u typed given)
 
 -- ---- kinds and linkages
 
@@ -131,3 +138,80 @@ nothing_declared t b parts P none = record {
   state = λ source s q sound spelled. ap (λ o. declare_named source o (type_by parts (with_bound t b s)) (with_bound t b s)) (sym none);
   spelled = λ source q h. h;
 }
+
+-- ---- parameters and enumerators
+
+module _ (t u : Table) (b : Bound) (grows : Grows t u b) (parts : List Part) (tokens : List Tok) (i : ℕ) (named : b.pending.name ≡ Some i) (name : Name)
+    (on : (source : Source) → HasTokens tokens source → IsNamed i name source) (n : TypeNo) (meant : (s : State) → type_at u n ≡ decayed (type_by parts (with_bound t b s))) where
+  parameter_is : (source : Source) (s : State) → declaring_parameter parts source (with_bound t b s) ≡ parameter_typed i (type_at u n) source (with_bound u b s)
+  parameter_is source s =
+      ap (λ o. declare_parameter source o (type_by parts (with_bound t b s)) (with_bound t b s)) named
+      ∙ (λ j. parameter_typed i (sym (meant s) j) source (with_bound t b s))
+      ∙ ap (parameter_typed i (type_at u n) source) (sym (grows.same s))
+
+  pub parameter_ended : (c : Bound) → Does (IsNamed i name) u b (parameter_typed i (type_at u n)) u c → Does (HasTokens tokens) t b (declaring_parameter parts) u c
+  parameter_ended c d = record {
+    state = λ source s q sound spelled. d.state source s (on source q) sound spelled ∙ sym (parameter_is source s);
+    spelled = λ source q h. d.spelled source (on source q) h;
+  }
+
+  pub parameter_fails : (z : BindFault) → Refuses z (Fails (IsNamed i name) u b (parameter_typed i (type_at u n))) → Refuses z (Fails (HasTokens tokens) t b (declaring_parameter parts))
+  parameter_fails z = refuses_on z (Fails (IsNamed i name) u b (parameter_typed i (type_at u n))) (Fails (HasTokens tokens) t b (declaring_parameter parts))
+      (λ c k h source s q sound spelled. ap (λ a. a.fault) (parameter_is source s) ∙ h source s (on source q) sound spelled)
+
+pub no_parameter : (t : Table) (b : Bound) (parts : List Part) (P : Source → Type 0) → b.pending.name ≡ None → Does P t b (declaring_parameter parts) t b
+no_parameter t b parts P none = record {
+  state = λ source s q sound spelled. ap (λ o. declare_parameter source o (type_by parts (with_bound t b s)) (with_bound t b s)) (sym none);
+  spelled = λ source q h. h;
+}
+
+-- a declaration without linkage that is made of a kind
+abbrev pub plain_decl : Space → Kind → ℕ → Name → Decl
+plain_decl sp k i name = record { space = sp; name = name; token = i; kind = k; linkage = linkage.None; note = 0 }
+
+pub formed_plain : (d : Decl) (k : Kind) (i : ℕ) (name : Name) → is_tag_kind k ≡ false → d ≡ plain_decl space.Ordinary k i name → IsFormed d
+formed_plain d k i name e is = subst IsFormed (sym is) (record { tags = sym e; types = λ h. refl; linked = λ h. cc })
+
+pub bare_plain : (d : Decl) (sp : Space) (k : Kind) (i : ℕ) (name : Name) → d ≡ plain_decl sp k i name → d.note ≡ 0
+bare_plain d sp k i name is = ap (λ (x : Decl). x.note) is
+
+module _ (b : Bound) (i : ℕ) (name : Name) (d : Decl) (n : TypeNo) (is : d ≡ plain_decl space.Ordinary kind.Object i name) (x : KnownNames) (m : names.Moves b.names (used (IsParameter i)) x) where
+  on_decl : (source : Source) → IsNamed i name source → IsNamed d.token d.name source
+  on_decl source h = subst (λ (z : Decl). IsNamed z.token z.name source) (sym is) h
+
+  pub parameter_does : (y : KnownNames) → ((t : Table) → IsTypeNo t n → names.Does t (IsNamed d.token d.name) x (declared_as d n t) y)
+      → DoesWith n (IsNamed i name) b (parameter_typed i) (record b { names = y })
+  parameter_does y h t typed given =
+      names_do_as b y t (IsNamed d.token d.name) (IsNamed i name) (λ source s. declared_as d n t source (used (IsParameter i) s)) (parameter_typed i (type_at t n)) on_decl
+      (λ source s q spelled. ap (λ (z : Decl). declared_as z n t source (used (IsParameter i) (with_bound t b s))) (sym is))
+      (both_done t (IsNamed d.token d.name) b.names x y (used (IsParameter i)) (declared_as d n t) m (h t given))
+
+  pub parameter_refused : (z : BindFault) → Refuses z (names.Fails (IsNamed d.token d.name) x (declared_as d n)) → Refuses z (FailsWith n (IsNamed i name) b (parameter_typed i))
+  parameter_refused z h =
+      refuses_on z (names.Fails (IsNamed d.token d.name) b.names (λ t source s. declared_as d n t source (used (IsParameter i) s))) (FailsWith n (IsNamed i name) b (parameter_typed i))
+      (λ c k f t typed given source s q sound spelled.
+      ap (λ (w : Decl). (declared_as w n t source (used (IsParameter i) (with_bound t b s))).fault) (sym is) ∙ f t source (rest b t s) (on_decl source q) sound spelled.0)
+      (both_failed (IsNamed d.token d.name) b.names x (used (IsParameter i)) (declared_as d n) z m h)
+
+  pub parameter_typed_on : (y : KnownNames) → ((t : Table) → IsTypeNo t n → IsOf t x → IsOf t y) → StaysWith n b (record b { names = y })
+  parameter_typed_on y of t typed given = record { names = of t given ((m t).typed typed.names); records = typed.records; base = typed.base; filled = typed.filled; basics = typed.basics }
+
+module _ (b : Bound) (i : ℕ) (name : Name) (tokens : List Tok) (on : (source : Source) → HasTokens tokens source → IsNamed i name source) (d : Decl) (is : d ≡ plain_decl space.Ordinary kind.Enumerator i name) where
+  on_enumerator : (source : Source) → HasTokens tokens source → IsNamed d.token d.name source
+  on_enumerator source h = subst (λ (z : Decl). IsNamed z.token z.name source) (sym is) (on source h)
+
+  enumerator_is : (t : Table) → IsTyped t b → (source : Source) (s : State) → enumerating i source (with_bound t b s) ≡ declared_as d b.basics.arith t source (with_bound t b s)
+  enumerator_is t typed source s =
+      ap (λ c. declare source (declaration space.Ordinary kind.Enumerator linkage.None i c (with_bound t b s)) (with_bound t b s)) (sym typed.basics.1.1)
+      ∙ ap (λ (z : Decl). declared_as z b.basics.arith t source (with_bound t b s)) (sym is)
+
+  pub enumerator_declared : (y : KnownNames) → ((t : Table) → IsTypeNo t b.basics.arith → names.Does t (IsNamed d.token d.name) b.names (declared_as d b.basics.arith t) y)
+      → DoesAny (HasTokens tokens) b (enumerating i) (record b { names = y })
+  enumerator_declared y h t typed =
+      names_do_as b y t (IsNamed d.token d.name) (HasTokens tokens) (declared_as d b.basics.arith t) (enumerating i) on_enumerator (λ source s q spelled. enumerator_is t typed source s) (h t typed.basics.1.0)
+
+  pub enumerator_fails : (z : BindFault) → Refuses z (names.Fails (IsNamed d.token d.name) b.names (declared_as d b.basics.arith)) → Refuses z (FailsAny (HasTokens tokens) b (enumerating i))
+  enumerator_fails = names_refuse_as b (IsNamed d.token d.name) (HasTokens tokens) (declared_as d b.basics.arith) (enumerating i) on_enumerator (λ t source s typed q spelled. ap (λ z. z.fault) (enumerator_is t typed source s))
+
+  pub enumerator_typed : (y : KnownNames) → ((t : Table) → IsTypeNo t b.basics.arith → names.Does t (IsNamed d.token d.name) b.names (declared_as d b.basics.arith t) y) → StaysTyped b (record b { names = y })
+  enumerator_typed y h t typed = record { names = (h t typed.basics.1.0).typed typed.names; records = typed.records; base = typed.base; filled = typed.filled; basics = typed.basics }

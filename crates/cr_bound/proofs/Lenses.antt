@@ -9,6 +9,9 @@ use Rattle.cr_binding.specs.Source.{Source}
 use Rattle.cr_binding.specs.State.{State}
 use Rattle.cr_records.specs.Kept.{RecordTable, IsOf as AreOf}
 use Rattle.cr_records.specs.Records.{with_records}
+use Rattle.cr_known.specs.Known.{Gathering}
+use Rattle.cr_bound.specs.declared.saved.Saved.TheVariants as kept
+use Rattle.cr_bound.specs.Saving.{SavedStay}
 use Rattle.cr_names.specs.declared.fault.BindFault.{BindFault}
 use Rattle.cr_names.specs.declared.fault.BindFault.TheVariants as fault
 use Rattle.cr_names.specs.Kept.{KnownNames, IsOf}
@@ -30,8 +33,7 @@ keeps_both t u w a b = record {
 
 -- ---- growing
 
--- the names and the records of what is bound stay, as types are added
-module _ (t u : Table) (b : Bound) (keeps : Keeps t u) where
+module _ (t u : Table) (keeps : Keeps t u) where
   pub base_stays : (o : Option TypeNo) → IfSome o (IsTypeNo t) → IfSome o (IsTypeNo u)
   base_stays None h = tt
   base_stays (Some n) h = (keeps.types n h).0
@@ -44,6 +46,8 @@ module _ (t u : Table) (b : Bound) (keeps : Keeps t u) where
   filled_stays None h = tt
   filled_stays (Some r) h = (keeps.records r h).0
 
+-- the names and the records of what is bound stay, as types are added
+module _ (t u : Table) (b : Bound) (keeps : Keeps t u) where
   numbers_stay : (n : TypeNo) (c : CType) → Numbers t n c → Numbers u n c
   numbers_stay n c h = (let k = keeps.types n h.0 in (k.0, k.2 ∙ h.1))
 
@@ -51,14 +55,14 @@ module _ (t u : Table) (b : Bound) (keeps : Keeps t u) where
   basics_stay x h = (numbers_stay x.void Void h.0, numbers_stay x.arith Arith h.1, numbers_stay x.mixed Mixed h.2, numbers_stay x.supplied (Fun Arith) h.3)
 
   pub pending_stays : (p : Pending) → IfSome p.base (IsTypeNo t) → (s : State) → with_pending u p s ≡ with_pending t p s
-  pending_stays p h s = ap (λ o. record s { pending = record { specifiers = p.specifiers; last_basic = p.last_basic; base = o; is_untagged = p.is_untagged; name = p.name; parameters = p.parameters } }) (base_same p.base h)
+  pending_stays p h s = ap (λ o. record s { pending = record { specifiers = p.specifiers; last_basic = p.last_basic; base = o; is_untagged = p.is_untagged; name = p.name; parameters = p.parameters } }) (base_same t u keeps p.base h)
 
   pub grown : u.records ≡ t.records → IsTyped t b → IsOf u b.names × ((s : State) → with_names u b.names s ≡ with_names t b.names s)
       → AreOf u b.records × ((s : State) → with_records u b.records s ≡ with_records t b.records s) → Grows t u b
   grown same h n r = record {
     keeps = keeps;
     records = same;
-    typed = record { names = n.0; records = r.0; base = base_stays b.pending.base h.base; filled = filled_stays b.place.filled h.filled; basics = basics_stay b.basics h.basics };
+    typed = record { names = n.0; records = r.0; base = base_stays t u keeps b.pending.base h.base; filled = filled_stays t u keeps b.place.filled h.filled; basics = basics_stay b.basics h.basics };
     same = λ s.
         n.1 (with_records u b.records (with_pending u b.pending (with_place b.place s)))
         ∙ ap (with_names t b.names) (r.1 (with_pending u b.pending (with_place b.place s)) ∙ ap (with_records t b.records) (pending_stays b.pending h.base (with_place b.place s)));
@@ -110,3 +114,10 @@ module _ (b : Bound) (P Q : Source → Type 0) (f : Table → Source → State �
 -- types that stay with the same names
 pub typed_at : (b : Bound) (y : KnownNames) → y ≡ b.names → StaysTyped b (record b { names = y })
 typed_at b y e = names_typed b y (λ t h. subst (λ (x : KnownNames). IsOf t x) (sym e) h)
+
+-- what was saved of a declaration stays as types are added
+pub saved_stays : SavedStay
+saved_stays t u kept.Nothing keeps h = (tt, refl)
+saved_stays t u (kept.Gathering p) keeps h =
+    (base_stays t u keeps p.base h, ap (λ o. Gathering (record { specifiers = p.specifiers; last_basic = p.last_basic; base = o; is_untagged = p.is_untagged; name = p.name; parameters = p.parameters })) (base_same t u keeps p.base h))
+saved_stays t u (kept.Filling r) keeps h = (filled_stays t u keeps r h, refl)

@@ -3,12 +3,13 @@ use Rattle.std.specs.Prelude.{◌≡◌, ℕ, Option, Some, None, option_map, Li
 use Rattle.cr_base.specs.declared.token.Name.{Name}
 use Rattle.cr_base.specs.declared.cause.IllCause.{IllCause}
 use Rattle.cr_types.specs.declared.Part.{Part}
-use Rattle.cr_types.specs.Types.{CType, Arith, Table, Keeps, derived_by}
+use Rattle.cr_types.specs.declared.TypeNo.{TypeNo}
+use Rattle.cr_types.specs.Types.{CType, Arith, Table, IsTypeNo, Keeps, type_at, derived_by}
 use Rattle.cr_binding.specs.Source.{Source, name_at, text_at}
 use Rattle.cr_binding.specs.State.{State, start, nothing_pending}
 use Rattle.cr_binding.specs.Declaring.{declare_named, declare_parameter}
 use Rattle.cr_binding.specs.Specifying.{specified_type}
-use Rattle.cr_binding.specs.RecordMembers.{add_member}
+use Rattle.cr_binding.specs.RecordMembers.{add_member, splice, end_record}
 use Rattle.cr_bound.specs.declared.bound.Bound.{Bound}
 use Rattle.cr_bound.specs.Kept.{with_bound, IsTyped, AreSpelled}
 
@@ -43,6 +44,16 @@ Fails P t old f c i = (source : Source) (s : State) → P source → s.fault ≡
 abbrev pub FailsAny : (Source → Type 0) → Bound → (Source → State → State) → IllCause → ℕ → Type 0
 FailsAny P old f c i = (t : Table) → IsTyped t old → Fails P t old f c i
 
+-- The same with the number of a type.
+abbrev pub DoesWith : TypeNo → (Source → Type 0) → Bound → (CType → Source → State → State) → Bound → Type 0
+DoesWith n P old f new = (t : Table) → IsTyped t old → IsTypeNo t n → Does P t old (f (type_at t n)) t new
+
+abbrev pub FailsWith : TypeNo → (Source → Type 0) → Bound → (CType → Source → State → State) → IllCause → ℕ → Type 0
+FailsWith n P old f c i = (t : Table) → IsTyped t old → IsTypeNo t n → Fails P t old (f (type_at t n)) c i
+
+abbrev pub StaysWith : TypeNo → Bound → Bound → Type 0
+StaysWith n old new = (t : Table) → IsTyped t old → IsTypeNo t n → IsTyped t new
+
 -- types were added, but no records: the same is seen
 pub record Grows (t u : Table) (b : Bound) : Type 0 where
   pub keeps : Keeps t u
@@ -75,6 +86,13 @@ declaring_parameter parts t s = declare_parameter t s.pending.name (type_by part
 
 abbrev pub adding : List Part → Source → State → State
 adding parts t s = add_member t s.filled s.pending.name (type_by parts s) s
+
+-- the list of members that is read ends
+abbrev pub ending : State → State
+ending s = end_record s.filled s
+
+abbrev pub splicing : Source → State → State
+splicing t s = splice t s
 
 -- a declaration begins
 abbrev pub beginning : State → State

@@ -2,6 +2,10 @@ pub mod Bound
 pub mod Declaring
 pub mod Kept
 pub mod Making
+pub mod Members
+pub mod Mentions
 pub mod Pending
+pub mod Saving
 pub mod Scoping
+pub mod Tags
 pub mod Words

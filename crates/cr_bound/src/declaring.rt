@@ -16,7 +16,7 @@ ghost use Rattle.cr_declared.specs.Rows.{IsFormed};
 ghost use Rattle.cr_names.specs.Kept.{IsOf};
 ghost use Rattle.cr_names.specs.Names.{Moves as AreMoved, Does as IsDone, Fails as IsFault, HasTokens, IsNamed, IsAnswer, Refuses, declaration_of};
 ghost use Rattle.cr_bound.specs.Kept.{with_bound, IsTyped};
-ghost use Rattle.cr_bound.specs.Bound.{Any, Does, DoesAny, Moves, StaysTyped, Fails, FailsAny, declaring, declaring_parameter, Grows, type_by};
+ghost use Rattle.cr_bound.specs.Bound.{Any, Does, DoesAny, Moves, StaysTyped, Fails, FailsAny, declaring, declaring_parameter, Grows, DoesWith, FailsWith, StaysWith, type_by};
 ghost use Rattle.cr_bound.specs.Declaring.{declaring_typed, parameter_typed, enumerating, IsLinkage, linkage_in, seeing};
 ghost use Rattle.cr_bound.specs.Making.{made, IsMade};
 
@@ -106,7 +106,7 @@ fn linkage_by(file_scope: bool, is_static: bool, takes_seen: bool, seen: Option<
 }
 
 // A declaration at a token, with its name.
-fn declaration(space: Space, kind: Kind, linkage: Linkage, token: u32, name: Name) -> Decl
+pub fn declaration(space: Space, kind: Kind, linkage: Linkage, token: u32, name: Name) -> Decl
     ensures { result ≡ record { space = space; name = name; token = token; kind = kind; linkage = linkage; note = 0 } }
 {
     Decl {
@@ -271,5 +271,70 @@ impl Bound {
         let ty = self.declared_type(types, parts)?;
         self.declare_typed(types, token, name_at(tokens, token), ty)?;
         Ok(())
+    }
+
+    /// The end of a parameter: its name, if it has one, is declared (action `Param`).
+    ///
+    /// `Redeclared`: its function has a parameter of that name.
+    pub fn declare_parameter(
+        &mut self,
+        types: &mut Types,
+        parts: &[Part],
+        tokens: &[Tok],
+    ) -> Result<(), BindFault>
+        requires { IsTyped types.old self.old }
+        ensures ok { OnOk result (Does (HasTokens tokens.now) types.old self.old (declaring_parameter parts.now) types.new self.new) }
+        ensures ill { IfErr result (λ f. Refuses f (Fails (HasTokens tokens.now) types.old self.old (declaring_parameter parts.now))) }
+        ensures typed { IsTyped types.new self.new }
+        ensures records { types.new.records ≡ types.old.records }
+        ensures keeps { Keeps types.old types.new }
+    {
+        let Some(token) = self.pending.name else {
+            return Ok(());
+        };
+        let ty = self.parameter_type(types, parts)?;
+        self.put_parameter(token, name_at(tokens, token), ty)?;
+        Ok(())
+    }
+
+    fn put_parameter(&mut self, token: u32, name: Name, ty: TypeNo) -> Result<(), BindFault>
+        ensures ok { OnOk result (DoesWith ty (IsNamed token name) self.old (parameter_typed token) self.new) }
+        ensures ill { IfErr result (λ f. Refuses f (FailsWith ty (IsNamed token name) self.old (parameter_typed token))) }
+        ensures typed { StaysWith ty self.old self.new }
+    {
+        self.names.use_parameter(token)?;
+        let declared = declaration(Space::Ordinary, Kind::Object, Linkage::None, token, name);
+        self.names.declare(declared, ty)?;
+        Ok(())
+    }
+
+    /// An enumerator, of which this is the token (action `Enumerator`).
+    ///
+    /// `Redeclared`: an earlier declaration may not stand beside it (C11 6.7p3).
+    pub fn declare_enumerator(&mut self, token: u32, tokens: &[Tok]) -> Result<(), BindFault>
+        ensures ok { OnOk result (DoesAny (HasTokens tokens.now) self.old (enumerating token) self.new) }
+        ensures ill { IfErr result (λ f. Refuses f (FailsAny (HasTokens tokens.now) self.old (enumerating token))) }
+        ensures typed { StaysTyped self.old self.new }
+    {
+        let name = name_at(tokens, token);
+        let declared = declaration(
+            Space::Ordinary,
+            Kind::Enumerator,
+            Linkage::None,
+            token,
+            name,
+        );
+        self.names.declare(declared, self.basics.arith)?;
+        Ok(())
+    }
+
+    /// Answers whether the name of a token is a typedef name here (C11 6.7.8p3), and notes that it was asked.
+    pub fn ask(&mut self, token: u32, name: Name) -> Result<bool, OutOfMemory>
+        ensures answer { IfOk result (IsAnswer self.old.names token name) }
+        ensures ok { IfOk result (λ b. Moves self.old (asked (Asked token b ∷ [])) self.new) }
+        ensures typed { StaysTyped self.old self.new }
+    {
+        let answer = self.names.ask(token, name)?;
+        Ok(answer)
     }
 }

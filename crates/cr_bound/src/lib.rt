@@ -4,10 +4,15 @@
 
 mod bound;
 mod declaring;
+mod members;
+mod mentions;
 mod pending;
 mod place;
+mod saved;
 mod scoping;
+mod tags;
 mod words;
 
 pub use bound::Bound;
 pub use pending::Pending;
+pub use saved::{Saved, saved_stay};

@@ -1,0 +1,10 @@
+use Rattle.cr_bound.proofs.Membering.{member_spliced, splice_refused}
+use Rattle.cr_bound.proofs.bound.Bound.splice.Goals as goal
+
+pub returns-in-Ok-clause-ok : goal.returns-in-Ok-clause-ok
+returns-in-Ok-clause-ok c =
+    member_spliced c.args.types.now _ c.args.self.now c.in_ok-ty.ensures.grows _ c.in-Some.is _ c.if-not-self.false c.in_ok-ty.ensures.meant _ c.in-Ok.ensures.ok c.in-Ok.ensures.spelled
+
+pub returns-in-Err-clause-ill : goal.returns-in-Err-clause-ill
+returns-in-Err-clause-ill c =
+    splice_refused c.args.types.now _ c.args.self.now c.in_ok-ty.ensures.grows _ c.in-Some.is _ c.if-not-self.false c.in_ok-ty.ensures.meant _ _ c.refused.ensures c.in-Err.ensures.ill
