@@ -1,5 +1,5 @@
 -- That names are declared as binding says.
-use Rattle.std.proofs.Common.{◌≡◌, ℕ, Bool, true, false, not, ◌&&◌, ◌||◌, if◌then◌else◌, Option, Some, None, List, [], refl, sym, ap, subst, ◌∙◌}
+use Rattle.std.proofs.Common.{◌≡◌, ℕ, Bool, true, false, not, ◌&&◌, if◌then◌else◌, Option, Some, None, List, refl, sym, ap, subst, ◌∙◌}
 use Rattle.std.specs.Prelude.{option_map}
 use Rattle.cr_base.specs.declared.token.Name.{Name}
 use Rattle.cr_base.specs.declared.token.Tok.{Tok}
@@ -11,7 +11,6 @@ use Rattle.cr_scope.specs.declared.Linkage.TheVariants as linkage
 use Rattle.cr_scope.specs.declared.Space.{Space}
 use Rattle.cr_scope.specs.declared.Space.TheVariants as space
 use Rattle.cr_decl.specs.declared.SpecWord.TheVariants as word
-use Rattle.cr_scope.specs.Declarations.{Entry}
 use Rattle.cr_types.specs.declared.Part.{Part}
 use Rattle.cr_types.specs.declared.TypeNo.{TypeNo}
 use Rattle.cr_types.specs.Types.{CType, Table, IsTypeNo, type_at}
@@ -27,9 +26,9 @@ use Rattle.cr_names.specs.Kept.{KnownNames, IsOf}
 use Rattle.cr_names.specs.Names as names
 use Rattle.cr_names.specs.Names.{HasTokens, IsNamed, IsMeaning, IsDeclaration, Refuses, declared_as, declaration_of}
 use Rattle.cr_bound.specs.declared.bound.Bound.{Bound}
-use Rattle.cr_bound.specs.Kept.{with_bound, IsTyped, AreSpelled}
+use Rattle.cr_bound.specs.Kept.{with_bound, IsTyped}
 use Rattle.cr_bound.specs.Bound.{Does, DoesAny, DoesWith, Fails, FailsAny, FailsWith, StaysTyped, StaysWith, Grows, declaring, declaring_parameter, type_by}
-use Rattle.cr_bound.specs.Declaring.{declaring_typed, parameter_typed, enumerating, IsLinkage, linkage_in, seeing}
+use Rattle.cr_bound.specs.Declaring.{declaring_typed, parameter_typed, enumerating, IsLinkage, seeing}
 use Rattle.cr_bound.specs.Making.{made, IsMade}
 use Rattle.cr_bound.specs.declared.declaring.Making.{Making}
 use Rattle.cr_bound.proofs.Lenses.{rest, names_do_as, names_refuse_as, refuses_on}

@@ -7,7 +7,7 @@ use Rattle.cr_types.specs.declared.RecNo.{RecNo}
 use Rattle.cr_types.specs.Types.{CType, Void, Arith, Mixed, Fun, Table, Keeps, IsTypeNo, IsRecNo, type_at}
 use Rattle.cr_binding.specs.Source.{Source}
 use Rattle.cr_binding.specs.State.{State}
-use Rattle.cr_records.specs.Kept.{RecordTable, IsOf as AreOf}
+use Rattle.cr_records.specs.Kept.{IsOf as AreOf}
 use Rattle.cr_records.specs.Records.{with_records}
 use Rattle.cr_known.specs.Known.{Gathering}
 use Rattle.cr_bound.specs.declared.saved.Saved.TheVariants as kept
@@ -21,7 +21,7 @@ use Rattle.cr_bound.specs.declared.pending.Pending.{Pending}
 use Rattle.cr_bound.specs.declared.bound.Basics.{Basics}
 use Rattle.cr_bound.specs.declared.bound.Bound.{Bound}
 use Rattle.cr_bound.specs.Kept.{with_pending, with_place, with_bound, Numbers, AreBasics, IsTyped, AreSpelled}
-use Rattle.cr_bound.specs.Bound.{Any, Leaves, Does, DoesAny, Moves, StaysTyped, Fails, FailsAny, Grows}
+use Rattle.cr_bound.specs.Bound.{Any, Does, Moves, StaysTyped, FailsAny, Grows}
 
 -- ---- types
 

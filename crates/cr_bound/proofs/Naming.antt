@@ -1,26 +1,23 @@
 -- What identifiers in expressions mean.
-use Rattle.std.proofs.Common.{◌≡◌, ℕ, Bool, true, false, ◌&&◌, if◌then◌else◌, Option, Some, None, List, refl, sym, ap, ◌∙◌}
-use Rattle.std.specs.Prelude.{option_map, IfSome}
+use Rattle.std.proofs.Common.{◌≡◌, ℕ, Bool, true, false, ◌&&◌, if◌then◌else◌, Option, Some, None, List, sym, ap, ◌∙◌}
 use Rattle.cr_base.specs.declared.token.Name.{Name}
 use Rattle.cr_base.specs.declared.cause.IllCause.TheVariants as cause
 use Rattle.cr_scope.specs.declared.Space.TheVariants as space
 use Rattle.cr_types.specs.declared.TypeNo.{TypeNo}
-use Rattle.cr_types.specs.Types.{Fun, Arith, Table, IsTypeNo, type_at}
-use Rattle.cr_binding.specs.Source.{Source, text_at, is_built_in}
-use Rattle.cr_binding.specs.State.{Declaration, IsBuiltIn, State}
+use Rattle.cr_types.specs.Types.{Table, IsTypeNo, type_at}
+use Rattle.cr_binding.specs.Source.{Source, is_built_in}
+use Rattle.cr_binding.specs.State.{IsBuiltIn, State}
 use Rattle.cr_binding.specs.Declaring.{failed, used, looked_up, declaration_at, meaning_here}
-use Rattle.cr_binding.specs.Expressions.{push, built_in, is_function_name, is_value, denoting, identifier}
+use Rattle.cr_binding.specs.Expressions.{push, built_in, is_function_name, is_value, denoting}
 use Rattle.cr_names.specs.declared.names.Typed.{Typed}
 use Rattle.cr_names.specs.Kept.{KnownNames, IsOf}
 use Rattle.cr_names.specs.Names as names
 use Rattle.cr_names.specs.Names.{IsMeaning, IsDeclaration, Refuses, declaration_of}
-use Rattle.cr_names.specs.declared.fault.BindFault.TheVariants as fault
-use Rattle.cr_bound.specs.declared.mentions.Mentioned.{Mentioned}
 use Rattle.cr_bound.specs.declared.mentions.Mentioned.TheVariants as mentioned
 use Rattle.cr_bound.specs.declared.bound.Bound.{Bound}
 use Rattle.cr_bound.specs.Kept.{with_bound, IsTyped, AreSpelled}
 use Rattle.cr_bound.specs.Bound.{Leaves, FailsAny, IsWord}
-use Rattle.cr_bound.specs.Mentions.{IsMentioned, identifying, mentioning, HasType}
+use Rattle.cr_bound.specs.Mentions.{IsMentioned, identifying}
 use Rattle.cr_bound.proofs.Lenses.{rest}
 
 module _ (b : Bound) (called : Bool) (name : Name) (text : List ℕ) where

@@ -1,5 +1,5 @@
 -- That tokens are read as binding says.
-use Rattle.std.proofs.Common.{◌≡◌, ℕ, Option, Some, List, refl, sym, ap, subst, ◌∙◌}
+use Rattle.std.proofs.Common.{◌≡◌, ℕ, Option, List, sym, ap, subst, ◌∙◌}
 use Rattle.std.specs.Prelude.{bytes_eq, IfSome}
 use Rattle.std.specs.Map.{lookup}
 use Rattle.cr_base.specs.declared.cause.IllCause.TheVariants as cause
@@ -13,7 +13,6 @@ use Rattle.cr_binding.specs.Actions.{passed}
 use Rattle.cr_records.specs.Records.{with_records}
 use Rattle.cr_names.specs.Names.{with_names, Refuses}
 use Rattle.cr_names.specs.declared.fault.BindFault.{BindFault}
-use Rattle.cr_names.specs.declared.fault.BindFault.TheVariants as fault
 use Rattle.cr_bound.specs.declared.words.Reading.{Reading}
 use Rattle.cr_bound.specs.declared.words.Reading.TheVariants as reading
 use Rattle.cr_bound.proofs.Lenses.{refuses_on}
@@ -23,7 +22,7 @@ use Rattle.cr_bound.specs.declared.bound.Bound.{Bound}
 use Rattle.cr_bound.specs.Words.{read_by}
 use Rattle.cr_bound.specs.Pending.{IsRefused}
 use Rattle.cr_bound.specs.Kept.{with_pending, with_place, with_bound}
-use Rattle.cr_bound.specs.Bound.{IsText, Leaves, Does, DoesAny, FailsAny, StaysTyped}
+use Rattle.cr_bound.specs.Bound.{IsText, DoesAny, FailsAny, StaysTyped}
 
 module _ (b : Bound) (i : ℕ) (text : List ℕ) (w : Option SpecWord) (is : w ≡ lookup (bytes_eq text) specifier_words) where
   the_word : (source : Source) → IsText i text source → specifier_at source i ≡ w

@@ -1,17 +1,14 @@
 -- What scopes and bodies do to all that is bound.
-use Rattle.std.proofs.Common.{◌≡◌, ℕ, ◌+◌, Bool, true, false, if◌then◌else◌, Option, Some, None, List, [], refl, sym, ap, subst, ◌∙◌}
+use Rattle.std.proofs.Common.{◌≡◌, ℕ, Bool, true, false, Option, Some, None, List, [], refl, sym, ap, subst, ◌∙◌}
 use Rattle.std.specs.Prelude.{unwrap_or, option_map, IfSome}
 use Rattle.cr_base.specs.declared.Kind.TheVariants as kind
 use Rattle.cr_base.specs.declared.token.Name.{Name}
 use Rattle.cr_base.specs.declared.token.Tok.{Tok}
-use Rattle.cr_base.specs.declared.cause.IllCause.{IllCause}
-use Rattle.cr_base.specs.declared.cause.IllCause.TheVariants as cause
 use Rattle.cr_grammar.specs.declared.symbols.NonTerm.{NonTerm}
 use Rattle.cr_scope.specs.declared.Decl.{Decl}
 use Rattle.cr_scope.specs.declared.Linkage.TheVariants as linkage
 use Rattle.cr_scope.specs.declared.Space.TheVariants as space
-use Rattle.cr_types.specs.declared.TypeNo.{TypeNo}
-use Rattle.cr_types.specs.Types.{Void, Table, IsTypeNo, IsRecNo, type_at}
+use Rattle.cr_types.specs.Types.{Table, IsTypeNo, IsRecNo}
 use Rattle.cr_binding.specs.Declaring.{declare, declaration}
 use Rattle.cr_binding.specs.Source.{Source}
 use Rattle.cr_binding.specs.State.{State}
@@ -25,7 +22,7 @@ use Rattle.cr_bound.specs.declared.pending.Pending.{Pending}
 use Rattle.cr_bound.specs.declared.place.Place.{Place}
 use Rattle.cr_bound.specs.declared.bound.Bound.{Bound}
 use Rattle.cr_bound.specs.Kept.{number, kind_by, with_pending, with_place, with_bound, IsTyped}
-use Rattle.cr_bound.specs.Bound.{Any, Leaves, Does, DoesAny, Moves, StaysTyped, FailsAny}
+use Rattle.cr_bound.specs.Bound.{DoesAny, Moves, StaysTyped, FailsAny}
 use Rattle.cr_bound.specs.Scoping.{entering, entering_body, labelling}
 use Rattle.cr_bound.proofs.Lenses.{names_do_as, names_refuse_as}
 

@@ -1,5 +1,5 @@
 -- What tags do to all that is bound.
-use Rattle.std.proofs.Common.{◌≡◌, ℕ, Bool, true, false, not, eqb, if◌then◌else◌, Option, Some, None, List, [], ◌∷◌, ◌++◌, length, map, refl, sym, ap, subst, ◌∙◌}
+use Rattle.std.proofs.Common.{◌≡◌, ℕ, Bool, true, false, eqb, if◌then◌else◌, Option, Some, None, List, [], ◌∷◌, ◌++◌, map, refl, sym, ap, subst, ◌∙◌}
 use Rattle.std.specs.Prelude.{option_map, option_and_then, IfSome}
 use Rattle.std.specs.List.{list_any}
 use Rattle.cr_base.specs.declared.token.Name.{Name}
@@ -16,12 +16,12 @@ use Rattle.cr_types.specs.declared.RecNo.{RecNo}
 use Rattle.cr_types.specs.declared.TypeNo.{TypeNo}
 use Rattle.cr_types.specs.Types.{CType, Table, IsTypeNo, Keeps, type_at}
 use Rattle.cr_declared.specs.Rows.{IsFormed, is_tag_kind}
-use Rattle.cr_binding.specs.Source.{Source, name_at}
+use Rattle.cr_binding.specs.Source.{Source}
 use Rattle.cr_binding.specs.State.{Declaration, Pending, State}
 use Rattle.cr_binding.specs.Entities.{entry, token_or}
 use Rattle.cr_binding.specs.Declaring.{failed, declaration, declaration_at, declare, declare_plain, looked_up, meaning_here}
 use Rattle.cr_binding.specs.Specifying.{based}
-use Rattle.cr_binding.specs.Tags.{is_record_kind, is_union_kind, with_record, new_type, record_of, declare_tag, tag_here, tag_again, tag_alone, filling, completing, used_tag}
+use Rattle.cr_binding.specs.Tags.{is_record_kind, is_union_kind, with_record, new_type, record_of, declare_tag, tag_here, tag_again, filling, completing, used_tag}
 use Rattle.cr_records.specs.Kept.{RecordTable, IsOf as AreOf}
 use Rattle.cr_records.specs.Records.{with_records, recorded, AreSpelled as AreRecordsSpelled}
 use Rattle.cr_names.specs.declared.fault.BindFault.{BindFault}

@@ -1,10 +1,10 @@
 -- What the calls that bind do.
-use Rattle.std.specs.Prelude.{◌≡◌, ℕ, Option, Some, None, option_map, List}
+use Rattle.std.specs.Prelude.{◌≡◌, ℕ, Some, None, List}
 use Rattle.cr_base.specs.declared.token.Name.{Name}
 use Rattle.cr_base.specs.declared.cause.IllCause.{IllCause}
 use Rattle.cr_types.specs.declared.Part.{Part}
 use Rattle.cr_types.specs.declared.TypeNo.{TypeNo}
-use Rattle.cr_types.specs.Types.{CType, Arith, Table, IsTypeNo, Keeps, type_at, derived_by}
+use Rattle.cr_types.specs.Types.{CType, Table, IsTypeNo, Keeps, type_at, derived_by}
 use Rattle.cr_binding.specs.Source.{Source, name_at, text_at}
 use Rattle.cr_binding.specs.State.{State, start, nothing_pending}
 use Rattle.cr_binding.specs.Declaring.{declare_named, declare_parameter}

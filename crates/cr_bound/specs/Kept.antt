@@ -1,5 +1,5 @@
 -- How what is bound of a unit is kept, and what binding sees of it.
-use Rattle.std.specs.Prelude.{◌≡◌, ℕ, Option, None, option_map, IfSome}
+use Rattle.std.specs.Prelude.{◌≡◌, ℕ, option_map, IfSome}
 use Rattle.cr_base.specs.declared.Kind.{Kind}
 use Rattle.cr_base.specs.declared.Kind.TheVariants as kind
 use Rattle.cr_base.specs.declared.key.TagKind.{TagKind}

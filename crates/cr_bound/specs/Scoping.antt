@@ -1,5 +1,5 @@
 -- Scopes, bodies and labels, at the last token.
-use Rattle.std.specs.Prelude.{◌≡◌, ℕ, ◌+◌, ◌<◌, ◌^◌, Bool, if◌then◌else◌, [], ◌∷◌, ◌++◌}
+use Rattle.std.specs.Prelude.{◌+◌, ◌<◌, ◌^◌, Bool, if◌then◌else◌, [], ◌∷◌, ◌++◌}
 use Rattle.cr_binding.specs.Source.{Source}
 use Rattle.cr_binding.specs.State.{State}
 use Rattle.cr_binding.specs.Scoping.{entered, or_next, body_within, declare_label}

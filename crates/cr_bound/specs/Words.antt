@@ -1,5 +1,5 @@
 -- What a token says, by the node of the grammar that it stands in.
-use Rattle.std.specs.Prelude.{ℕ, Option, if◌then◌else◌}
+use Rattle.std.specs.Prelude.{ℕ}
 use Rattle.cr_binding.specs.Source.{Source}
 use Rattle.cr_binding.specs.State.{State}
 use Rattle.cr_binding.specs.Specifying.{specifier_at, specified, announced}

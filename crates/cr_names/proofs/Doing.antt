@@ -1,7 +1,7 @@
 -- What one change of the names does.
-use Rattle.std.proofs.Common.{◌≡◌, ℕ, ◌+◌, ◌<◌, ◌≤◌, Bool, true, false, ◌&&◌, if◌then◌else◌, Option, Some, None, List, [], ◌∷◌, ◌++◌, length, map, refl, sym, ap, subst, ◌∙◌, arith}
-use Rattle.std.specs.Prelude.{slice_get, position, option_map, option_and_then}
-use Rattle.std.specs.List.{list_any, find}
+use Rattle.std.proofs.Common.{◌≡◌, ℕ, ◌<◌, ◌≤◌, Bool, true, false, if◌then◌else◌, Option, Some, None, List, [], ◌∷◌, ◌++◌, length, map, sym, ap, subst, ◌∙◌, arith}
+use Rattle.std.specs.Prelude.{slice_get, position, option_and_then}
+use Rattle.std.specs.List.{list_any}
 use Rattle.std.proofs.lemmas.List.{map-append, length-append, length-map}
 use Rattle.std.proofs.lemmas.Option.{slice_get_past}
 use Rattle.cr_base.specs.declared.token.Name.{Name}
@@ -9,24 +9,24 @@ use Rattle.cr_base.specs.declared.cause.IllCause.TheVariants as cause
 use Rattle.cr_scope.specs.declared.Space.{Space}
 use Rattle.cr_scope.specs.declared.Space.TheVariants as space
 use Rattle.cr_scope.specs.declared.Decl.{Decl}
-use Rattle.cr_scope.specs.Declarations.{Entry, lookup, path_for, same_name, same_space}
-use Rattle.cr_scope.specs.Redeclaration.{clashes, same_path}
+use Rattle.cr_scope.specs.Declarations.{Entry, lookup, path_for}
+use Rattle.cr_scope.specs.Redeclaration.{clashes}
 use Rattle.cr_types.specs.declared.TypeNo.{TypeNo}
 use Rattle.cr_types.specs.Types.{Table, IsTypeNo, type_at}
-use Rattle.cr_paths.specs.Paths.{path_at, Grows}
+use Rattle.cr_paths.specs.Paths.{path_at}
 use Rattle.cr_declared.specs.Known.{Known, Becomes, is_redeclared, is_here, entry as known_entry}
 use Rattle.cr_declared.specs.Rows.{entry_of}
 use Rattle.cr_declared.specs.declared.rows.Row.{Row}
 use Rattle.cr_declared.specs.declared.rows.UseRow.{UseRow}
 use Rattle.cr_declared.specs.declared.rows.UseRow.TheVariants as row
 use Rattle.cr_binding.specs.Source.{Source, name_at}
-use Rattle.cr_binding.specs.State.{Declaration, Use, LookedUp, WasAsked, State}
+use Rattle.cr_binding.specs.State.{Declaration, LookedUp, WasAsked, State}
 use Rattle.cr_ll.specs.Derivation.{Asked}
 use Rattle.cr_binding.specs.Binding.{asked}
 use Rattle.cr_binding.specs.Entities.{entry, is_tag_here}
-use Rattle.cr_binding.specs.Declaring.{failed, used, looked_up, declaration, declaration_at, declare}
+use Rattle.cr_binding.specs.Declaring.{failed, used, looked_up, declaration, declaration_at}
 use Rattle.cr_names.specs.Kept.{KnownNames, IsKept, AreBare, AreGiven, AreSpelledBy, AreSpelled, IsPlaced, ArePlaced}
-use Rattle.cr_names.specs.Names.{declaration_by, declarations_by, use_by, with_names, IsNamed, Always, Does, Moves, Fails, IsMeaning, IsTagHere, IsDeclaration, declared_as, hiding}
+use Rattle.cr_names.specs.Names.{declarations_by, use_by, with_names, IsNamed, Does, Moves, Fails, IsMeaning, IsTagHere, IsDeclaration, declared_as, hiding}
 use Rattle.cr_names.proofs.Seen.{entries_same, length_declarations, declarations_more, typed_past, got, position_map, find_position}
 use Rattle.cr_names.proofs.Staying.{uses_stay, placed_stay, placed_more, given_more, bare_more, spelled_more}
 

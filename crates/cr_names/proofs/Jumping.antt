@@ -1,5 +1,5 @@
 -- That jumps are bound one after another.
-use Rattle.std.proofs.Common.{◌≡◌, ℕ, zero, suc, ◌+◌, ◌<◌, ◌≤◌, if◌then◌else◌, Option, Some, None, List, [], ◌∷◌, length, drop, get_or, add-one, refl, sym, ap, ◌∙◌, arith}
+use Rattle.std.proofs.Common.{◌≡◌, ℕ, zero, suc, ◌+◌, ◌<◌, ◌≤◌, if◌then◌else◌, Some, None, List, [], ◌∷◌, length, drop, get_or, add-one, refl, sym, ap, ◌∙◌, arith}
 use Rattle.std.specs.Prelude.{is_some}
 use Rattle.std.proofs.Math.Seq.{drop-cons}
 use Rattle.cr_base.specs.declared.token.Name.{Name}
@@ -8,9 +8,9 @@ use Rattle.cr_base.specs.declared.cause.IllCause.{IllCause}
 use Rattle.cr_base.specs.declared.cause.IllCause.TheVariants as cause
 use Rattle.cr_scope.specs.declared.Space.TheVariants as space
 use Rattle.cr_types.specs.Types.{Table}
-use Rattle.cr_binding.specs.Source.{Source, name_at}
+use Rattle.cr_binding.specs.Source.{Source}
 use Rattle.cr_binding.specs.State.{GoesTo, State}
-use Rattle.cr_binding.specs.Declaring.{failed, used, meaning_here}
+use Rattle.cr_binding.specs.Declaring.{used, meaning_here}
 use Rattle.cr_binding.specs.Scoping.{jump_to, unless_failed, all_jumps}
 use Rattle.cr_names.specs.declared.fault.BindFault.{BindFault}
 use Rattle.cr_names.specs.declared.fault.BindFault.TheVariants as fault

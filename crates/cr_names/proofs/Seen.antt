@@ -1,5 +1,5 @@
 -- The declarations that are seen: of a list with one more, and the kept ones with their spellings.
-use Rattle.std.proofs.Common.{◌≡◌, ℕ, zero, suc, ◌+◌, ◌-◌, ◌≤◌, Bool, true, false, cond, not, ◌&&◌, Option, Some, None, List, [], ◌∷◌, ◌++◌, length, map, refl, sym, ap, subst, ◌∙◌, arith}
+use Rattle.std.proofs.Common.{◌≡◌, ℕ, zero, suc, ◌+◌, ◌-◌, ◌≤◌, Bool, true, false, cond, not, Option, Some, None, List, [], ◌∷◌, ◌++◌, length, map, refl, sym, ap, subst, ◌∙◌, arith}
 use Rattle.std.specs.Prelude.{slice_get, position, nat_lt, option_map, option_and_then, unwrap_or, IfSome}
 use Rattle.std.specs.List.{find, position_or_len}
 use Rattle.std.proofs.lemmas.Bool.{ltb-false}
@@ -12,8 +12,7 @@ use Rattle.cr_types.specs.Types.{Void, Table, IsTypeNo, type_at}
 use Rattle.cr_declared.specs.declared.rows.Row.{Row}
 use Rattle.cr_declared.specs.Rows.{entry_of}
 use Rattle.cr_declared.proofs.Looked.{at_row}
-use Rattle.cr_binding.specs.Source.{Source, name_at}
-use Rattle.cr_binding.specs.State.{Declaration}
+use Rattle.cr_binding.specs.Source.{Source}
 use Rattle.cr_binding.specs.Entities.{entry}
 use Rattle.cr_binding.specs.Initialising.{last_type}
 use Rattle.cr_names.specs.Kept.{AreBare, AreGiven, AreSpelledBy}

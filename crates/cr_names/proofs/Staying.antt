@@ -1,15 +1,15 @@
 -- That the same names are seen as types and paths are added.
-use Rattle.std.proofs.Common.{◌≡◌, ℕ, ◌<◌, List, [], ◌∷◌, ◌++◌, length, map, refl, ap}
+use Rattle.std.proofs.Common.{◌≡◌, ℕ, List, [], ◌∷◌, ◌++◌, length, map, refl, ap}
 use Rattle.cr_scope.specs.Declarations.{Entry}
 use Rattle.cr_types.specs.declared.TypeNo.{TypeNo}
 use Rattle.cr_types.specs.Types.{Table, Keeps, type_at}
-use Rattle.cr_paths.specs.Paths.{path_at, Grows}
+use Rattle.cr_paths.specs.Paths.{Grows}
 use Rattle.cr_declared.specs.declared.rows.UseRow.{UseRow}
 use Rattle.cr_declared.specs.declared.rows.UseRow.TheVariants as row
 use Rattle.cr_binding.specs.Source.{Source}
-use Rattle.cr_binding.specs.State.{Use, LookedUp, WasAsked}
+use Rattle.cr_binding.specs.State.{LookedUp, WasAsked}
 use Rattle.cr_names.specs.Kept.{IsPlaced, ArePlaced, AreBare, AreGiven, AreSpelledBy}
-use Rattle.cr_names.specs.Names.{declaration_by, declarations_by, use_by, with_names, NamesStay}
+use Rattle.cr_names.specs.Names.{declarations_by, use_by, NamesStay}
 
 -- ---- types
 

@@ -8,9 +8,8 @@ use Rattle.cr_scope.specs.declared.Space.TheVariants as space
 use Rattle.cr_scope.specs.declared.Decl.{Decl}
 use Rattle.cr_scope.specs.Declarations.{Entry}
 use Rattle.cr_types.specs.declared.TypeNo.{TypeNo}
-use Rattle.cr_types.specs.Types.{CType, Void, Table, IsTypeNo, Keeps, type_at}
+use Rattle.cr_types.specs.Types.{Void, Table, Keeps, type_at}
 use Rattle.cr_paths.specs.Paths.{path_at}
-use Rattle.cr_declared.specs.Known.{Known}
 use Rattle.cr_declared.specs.declared.rows.UseRow.{UseRow}
 use Rattle.cr_declared.specs.declared.rows.UseRow.TheVariants as row
 use Rattle.cr_binding.specs.Source.{Source, name_at}

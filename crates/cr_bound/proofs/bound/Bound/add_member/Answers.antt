@@ -1,4 +1,4 @@
-use Rattle.cr_bound.proofs.Membering.{member_added, member_refused, typed_with, no_record, no_name}
+use Rattle.cr_bound.proofs.Membering.{member_added, member_refused}
 use Rattle.cr_bound.proofs.bound.Bound.add_member.Goals as goal
 
 pub returns-in-Ok-clause-ok : goal.returns-in-Ok-clause-ok

@@ -1,5 +1,5 @@
 use Rattle.std.proofs.lemmas.Result.{err_from_is_err_and}
-use Rattle.cr_bound.proofs.Declares.{declarator_ended, declarator_fails, nothing_declared}
+use Rattle.cr_bound.proofs.Declares.{declarator_ended, declarator_fails}
 use Rattle.cr_bound.proofs.bound.Bound.declare.Goals as goal
 
 pub returns-in_err-declare_typed-clause-ill : goal.returns-in_err-declare_typed-clause-ill

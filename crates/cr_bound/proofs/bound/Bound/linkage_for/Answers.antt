@@ -1,4 +1,4 @@
-use Rattle.std.proofs.Common.{◌≡◌, ◌∙◌, sym, ap, refl, false, Option, Some, None}
+use Rattle.std.proofs.Common.{◌≡◌, ◌∙◌, sym, ap, refl, false, Option}
 use Rattle.cr_base.specs.declared.Kind.{Kind}
 use Rattle.cr_base.specs.declared.Kind.TheVariants as kind
 use Rattle.cr_binding.specs.Source.{Source}

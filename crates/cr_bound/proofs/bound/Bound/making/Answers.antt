@@ -1,5 +1,4 @@
-use Rattle.std.proofs.Common.{◌≡◌, ◌∙◌, ◌&&◌, not, sym, [], ap}
-use Rattle.cr_scope.specs.declared.Linkage.{Linkage}
+use Rattle.std.proofs.Common.{◌≡◌, ◌∙◌, ◌&&◌, not, sym, []}
 use Rattle.cr_binding.specs.Source.{Source}
 use Rattle.cr_binding.specs.State.{State, start}
 use Rattle.cr_binding.specs.Declaring.{declaration_at, linkage_for}

@@ -1,6 +1,4 @@
-use Rattle.std.proofs.Common.{◌≡◌, ◌∙◌, ◌&&◌, true, false, ap, sym}
-use Rattle.cr_binding.specs.Source.{is_built_in}
-use Rattle.cr_binding.specs.Expressions.{is_function_name, is_value}
+use Rattle.std.proofs.Common.{◌∙◌, ◌&&◌, ap, sym}
 use Rattle.cr_bound.proofs.Naming.{function_name, value_named, no_value, supplied_named, nothing_named}
 use Rattle.cr_bound.proofs.bound.Bound.mentioned.Goals as goal
 

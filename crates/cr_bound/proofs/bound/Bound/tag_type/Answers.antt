@@ -1,4 +1,3 @@
-use Rattle.std.proofs.Common.{◌∙◌, refl}
 use Rattle.cr_binding.specs.State.{start}
 use Rattle.cr_bound.proofs.Tagging.{announced_typed, announced_does, announced_completes, announced_meant, had_meant, had_does}
 use Rattle.cr_bound.proofs.bound.Bound.tag_type.Goals as goal

@@ -1,4 +1,4 @@
-use Rattle.std.proofs.Common.{arith, subst, sym}
+use Rattle.std.proofs.Common.{subst, sym}
 use Rattle.std.proofs.lemmas.Result.{err_from_is_err_and}
 use Rattle.cr_names.specs.Kept.{KnownNames, IsOf}
 use Rattle.cr_names.proofs.Jumping.{one_more, one_fails, all_bound, next_jump, no_jump}

@@ -1,8 +1,7 @@
-use Rattle.std.proofs.Common.{◌≡◌, ◌∙◌, ◌-◌, Option, Some, None, length, ap, sym, subst}
-use Rattle.std.specs.Prelude.{slice_get, option_map, unwrap_or, IfSome}
-use Rattle.cr_types.specs.declared.TypeNo.{TypeNo}
-use Rattle.cr_types.specs.Types.{Void, Table, IsTypeNo, type_at}
-use Rattle.cr_names.specs.Kept.{KnownNames, IsOf}
+use Rattle.std.proofs.Common.{◌≡◌, ◌∙◌, ◌-◌, length, ap, sym, subst}
+use Rattle.std.specs.Prelude.{slice_get, option_map, unwrap_or}
+use Rattle.cr_types.specs.Types.{Void, type_at}
+use Rattle.cr_names.specs.Kept.{IsOf}
 use Rattle.cr_names.specs.Names.{IsLastType}
 use Rattle.cr_names.proofs.Seen.{last_is, given_some}
 use Rattle.cr_names.proofs.names.Names.last_type.Goals as goal

@@ -1,4 +1,4 @@
-use Rattle.std.proofs.Common.{◌<◌, length, subst, sym}
+use Rattle.std.proofs.Common.{length, subst, sym}
 use Rattle.cr_names.specs.Kept.{KnownNames, IsPlaced}
 use Rattle.cr_names.proofs.Doing.{used_keeps}
 use Rattle.cr_names.proofs.names.Names.push.Goals as goal
