@@ -144,7 +144,8 @@ fn meant_at(
     requires kept { AreRows paths.now rows.now }
     requires within { sought.path < length paths.now }
     requires there { IfSome denoted (λ c. c < length rows.now) }
-    ensures { IsTheOne (IsMeantAt paths.now rows.now groups.now.entries sought before denoted) result }
+    ensures { IsTheOne
+        (IsMeantAt paths.now rows.now groups.now.entries sought before denoted) result }
 {
     match denoted {
         None => nearest(paths, groups, sought, before, Sort::Any),
