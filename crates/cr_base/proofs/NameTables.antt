@@ -1,5 +1,5 @@
 -- Lists of texts in which no text stands twice.
-use Rattle.std.proofs.Common.{◌≡◌, ℕ, ◌+◌, ◌<◌, ◌≤◌, Bool, true, false, not, cond, List, [], ◌∷◌, ◌++◌, length, map, slice_get, Option, Some, None, refl, sym, ap, ◌∙◌, subst, true≢false, arith, zero, suc, nat_lt, ◌||◌, ◌⊎◌, inl, inr}
+use Rattle.std.proofs.Common.{◌≡◌, ℕ, ◌+◌, ◌<◌, Bool, true, false, not, cond, List, [], ◌∷◌, ◌++◌, length, map, slice_get, take, Some, None, refl, sym, ap, ◌∙◌, subst, true≢false, arith, zero, suc, nat_lt, ◌||◌, ◌⊎◌, inl, inr}
 use Rattle.std.specs.Prelude.{bytes_eq, if◌then◌else◌}
 use Rattle.std.specs.List.{list_any, position_or_len, position}
 use Rattle.std.proofs.lemmas.Slice.Eq.{bytes_eq-Decides}
@@ -93,3 +93,20 @@ module _ {V : Type 0} (f : V → List ℕ) (text : List ℕ) where
   pub stored : (ks : List V) (v k : V) (i : ℕ) → f v ≡ text → slice_get ks i ≡ Some k → bytes_eq (f v) (f k) ≡ true → slice_get (map f ks) i ≡ Some text
   stored ks v k i same at e =
       slice_get-map f ks i ∙ ap (option_map f) at ∙ ap (λ t. Some t) (sym ((bytes_eq-Decides (f v) (f k)).0 e) ∙ same)
+
+-- an element of the first ones of a list is one of the list
+pub slice_get-take : {X : Type 0} (n : ℕ) (xs : List X) (i : ℕ) (x : X) → slice_get (take n xs) i ≡ Some x → slice_get xs i ≡ Some x
+slice_get-take zero xs i x e = let no : ⊥ = cc in absurd no
+slice_get-take (suc n) [] i x e = e
+slice_get-take (suc n) (y ∷ xs) zero x e = e
+slice_get-take (suc n) (y ∷ xs) (suc i) x e = slice_get-take n xs i x e
+
+pub IsDistinct-take : (n : ℕ) (texts : List (List ℕ)) → IsDistinct texts → IsDistinct (take n texts)
+IsDistinct-take n texts d i j t at_i at_j = d i j t (slice_get-take n texts i t at_i) (slice_get-take n texts j t at_j)
+
+pub IsDistinct-more : (texts : List (List ℕ)) (text : List ℕ) → IsDistinct texts → IsDistinct (with_text texts text)
+IsDistinct-more texts text d = by (list_any (bytes_eq text) texts) refl
+  where
+    by : (b : Bool) → list_any (bytes_eq text) texts ≡ b → IsDistinct (if b then texts else texts ++ text ∷ [])
+    by true e = d
+    by false e = IsDistinct-push texts text e d

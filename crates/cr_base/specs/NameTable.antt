@@ -13,3 +13,7 @@ with_text texts text = if list_any (bytes_eq text) texts then texts else texts +
 -- The text has this number afterwards, and only a new text is added.
 abbrev pub Interns : List (List ℕ) → List ℕ → List (List ℕ) → ℕ → Type 0
 Interns old text new number = (new ≡ with_text old text) × (slice_get new number ≡ Some text)
+
+-- One text more leaves no text twice.
+abbrev pub StaysDistinct : Type 0
+StaysDistinct = (texts : List (List ℕ)) (text : List ℕ) → IsDistinct texts → IsDistinct (with_text texts text)

@@ -20,7 +20,7 @@ pub use identifiers::{
 pub use key::{Key, Kind, RecordKey, TagKind};
 pub use list::List;
 pub use memory::OutOfMemory;
-pub use name_table::NameTable;
+pub use name_table::{NameTable, texts_stay_distinct};
 pub use path::PathText;
 pub use substitution::shifted_places_are_where_the_bytes_went;
 pub use text::Text;

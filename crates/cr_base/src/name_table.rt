@@ -1,6 +1,6 @@
 //! Texts and their numbers.
-ghost use Rattle.std.specs.Prelude.{◌≡◌, ◌<◌, ◌-◌, ◌^◌, [], length, slice_get, Some, IfOk, OnErr};
-ghost use Rattle.cr_base.specs.NameTable.{Interns, IsDistinct};
+ghost use Rattle.std.specs.Prelude.{◌≡◌, ◌<◌, ◌-◌, ◌^◌, [], length, slice_get, take, Some, IfOk, OnErr};
+ghost use Rattle.cr_base.specs.NameTable.{Interns, IsDistinct, StaysDistinct};
 
 use crate::{Name, OutOfMemory};
 use indexmap::IndexSet;
@@ -51,6 +51,13 @@ impl NameTable {
         Ok(Name(place as u32))
     }
 
+    /// Keeps the texts with numbers below `len`, and drops the others.
+    pub fn truncate(&mut self, len: usize)
+        ensures { self.new ≡ take len self.old }
+    {
+        self.texts.truncate(len);
+    }
+
     /// The text that has this number.
     pub fn text(&self, name: Name) -> &[u8]
         requires { name.0 < length self.now }
@@ -72,3 +79,9 @@ impl NameTable {
         self.texts.len()
     }
 }
+
+/// A table in which no text stands twice has none twice after one more. It does nothing: its contract
+/// is the law.
+pub fn texts_stay_distinct()
+    ensures { StaysDistinct }
+{}

@@ -63,6 +63,10 @@ fn a_text_keeps_its_one_number(rt: HostRuntime) -> Result<(), Fail> {
     assert_eq!(rt; names.len(), 2);
     let again = names.intern(b"foo")?;
     assert_eq!(rt; (foo, bar, again), (Name(0), Name(1), Name(0)));
+    names.truncate(1);
+    assert_eq!(rt; names.len(), 1);
+    let next = names.intern(b"next")?;
+    assert_eq!(rt; next, Name(1));
     Ok(())
 }
 
