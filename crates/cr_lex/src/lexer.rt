@@ -155,10 +155,8 @@ impl Lexer {
     }
 }
 
-/// The tokens of a file's bytes up to the first fault, in order, and that fault (C11 5.1.1.2, phases
-/// 1 to 3; 6.4). Each token's text is put into the table of names, once. Where no memory is found, the
-/// table may have more texts than before, and has lost none.
-pub fn lex(
+// The tokens up to the first fault; where no memory is found, the texts that were put in stay.
+fn run(
     alloc: Global,
     names: &mut NameTable,
     bytes: &[u8],
@@ -189,6 +187,34 @@ pub fn lex(
                     fault: Some(fault),
                 });
             }
+        }
+    }
+}
+
+/// The tokens of a file's bytes up to the first fault, in order, and that fault (C11 5.1.1.2, phases
+/// 1 to 3; 6.4). Each token's text is put into the table of names, once. Where no memory is found, the
+/// table is as it was.
+pub fn lex(
+    alloc: Global,
+    names: &mut NameTable,
+    bytes: &[u8],
+    file: PathNo,
+) -> Result<Lexed, OutOfMemory>
+    requires bytes { length bytes.now ≤ 16777216 }
+    requires room { length names.old < 2 ^ 31 }
+    ensures tokens { IfOk result (λ l. map (seen names.new) l.tokens ≡ (lexed bytes.now).tokens) }
+    ensures file { IfOk result (λ l. AllByRecursion (IsOf file names.new) l.tokens) }
+    ensures fault { IfOk result (λ l. l.fault ≡ option_map (fault_in file) (lexed bytes.now).fault) }
+    ensures names { OnOk result (names.new ≡ with_texts names.old (lexed bytes.now).tokens) }
+    ensures kept { Extends names.old names.new }
+    ensures err { OnErr result (names.new ≡ names.old) }
+{
+    let held = names.len();
+    match run(alloc, names, bytes, file) {
+        Ok(lexed) => Ok(lexed),
+        Err(fault) => {
+            names.truncate(held);
+            Err(fault)
         }
     }
 }

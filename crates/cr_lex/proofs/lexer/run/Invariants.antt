@@ -1,7 +1,7 @@
 use Rattle.std.proofs.Common.{length, ◌≡◌}
 use Rattle.cr_lex.specs.Lexers.{left, IsIn}
 use Rattle.cr_lex.proofs.Runs.{IsRun}
-use Rattle.cr_lex.proofs.lexer.lex.Given as goal
+use Rattle.cr_lex.proofs.lexer.run.Given as goal
 
 abbrev pub invariant-loop-tokens : goal.invariant-loop-tokens
 invariant-loop-tokens l = record {

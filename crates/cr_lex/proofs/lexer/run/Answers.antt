@@ -2,7 +2,7 @@ use Rattle.std.proofs.Common.{◌∙◌, subst, sym}
 use Rattle.cr_lex.specs.Lexers.{left}
 use Rattle.cr_lex.specs.Seen.{IsStep, IsOf}
 use Rattle.cr_lex.proofs.Runs.{IsRun, first_run, one_more}
-use Rattle.cr_lex.proofs.lexer.lex.Goals as goal
+use Rattle.cr_lex.proofs.lexer.run.Goals as goal
 
 pub loop-tokens-init : goal.loop-tokens-init
 loop-tokens-init c =
