@@ -105,7 +105,7 @@ impl Expander {
     /// none; `Hungry` where it needs a token that wasn't fed, and `finish` wasn't called; `End` where
     /// all is given after `finish`. So the steps up to an `Out` are the uses of rules up to the next
     /// token of the result, and what is left behind that token is a list that is expanded from then
-    /// on. The macros are those of the steps before. A step adds at most 67,108,864 names, and keeps
+    /// on. The macros are those of the steps before. A step adds at most 33,554,432 names, and keeps
     /// those that are there, whatever it answers; a token that it gives has one of the names.
     /// `ArgCount`, `OpenCall`, `BadPaste` and `LimitMacros` come where the next use of a rule meets
     /// them; after a fault it answers that fault again.
@@ -129,7 +129,7 @@ impl Expander {
         ensures fault { OnOk result (self.new.fault ≡ None) }
         ensures named { IfOk result (λ s. IsOutKnown names.new s) }
         ensures grows { Grows names.old names.new }
-        ensures names { OnOk result (length names.new ≤ length names.old + 2 ^ 26) }
+        ensures names { length names.new ≤ length names.old + 2 ^ 25 }
         ensures limit { self.old.machine.used ≤ LIMIT → self.new.machine.used ≤ LIMIT }
     {
         if let Some(fault) = self.fault {

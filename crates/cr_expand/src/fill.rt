@@ -71,7 +71,7 @@ fn fill_one(
     ensures length { length names.new ≤ length names.old + 1 }
     ensures distinct { IsDistinct names.new }
     ensures same { (notes.new.from ≡ notes.old.from) × (notes.new.to ≡ notes.old.to) }
-    ensures joins { OnOk result (joins parts.new.items ≤ joins parts.old.items + 1) }
+    ensures joins { OnOk result (length names.new + joins parts.new.items ≤ length names.old + joins parts.old.items + 1) }
 {
     let made = made_for(alloc, names, sets, notes, name, raw, item)?;
     put_item(parts, raw, full, made, item)?;
@@ -103,7 +103,7 @@ pub fn fill(
     ensures length { length names.new ≤ length names.old + length items.now }
     ensures distinct { IsDistinct names.new }
     ensures same { (notes.new.from ≡ notes.old.from) × (notes.new.to ≡ notes.old.to) }
-    ensures joins { IfOk result (λ parts. joins parts.items ≤ length items.now) }
+    ensures joins { IfOk result (λ parts. length names.new + joins parts.items ≤ length names.old + length items.now) }
 {
     let mut parts = Vec::new(alloc);
     for i in 0..items.len() {

@@ -134,7 +134,7 @@ impl Machine {
         ensures named { IfOk result (λ s. IsOutKnown names.new s) }
         ensures grows { Grows names.old names.new }
         ensures limit { self.new.used ≤ LIMIT }
-        ensures length { OnOk result (length names.new ≤ length names.old + 1) }
+        ensures length { length names.new ≤ length names.old + 1 }
     {
         let _ = self.slots.pop_front();
         self.notes.take(names, Role::MacroName, h.token)?;
@@ -155,7 +155,7 @@ impl Machine {
         full: &[Vec<Held>],
         hide: HideSet,
     ) -> Result<(), ExpandFault>
-        requires room { length names.old + 2 * length m.now.body < 2 ^ 32 - 1 }
+        requires room { length names.old + length m.now.body < 2 ^ 32 - 1 }
         requires tables { AreTables names.old self.old.sets }
         requires name { IsKnown names.old self.old.sets name }
         requires watched { IsNamed names.old self.old.notes.from × IsNamed names.old self.old.notes.to }
@@ -169,7 +169,7 @@ impl Machine {
         ensures same { OnOk result (IsSameRun self.old self.new × (self.new.frames.items ≡ self.old.frames.items)) }
         ensures grows { Grows names.old names.new }
         ensures limit { self.new.used ≤ LIMIT }
-        ensures length { OnOk result (length names.new ≤ length names.old + 2 * length m.now.body) }
+        ensures length { length names.new ≤ length names.old + length m.now.body }
     {
         let list = subst(
             self.alloc,
@@ -189,7 +189,7 @@ impl Machine {
 
     // The name of an object-like macro.
     fn object(&mut self, names: &mut NameTable, h: Held, m: &Macro) -> Result<ExpStep, ExpandFault>
-        requires room { length names.old + 2 * length m.now.body < 2 ^ 32 - 1 }
+        requires room { length names.old + length m.now.body < 2 ^ 32 - 1 }
         requires tables { AreTables names.old self.old.sets }
         requires name { IsKnown names.old self.old.sets h }
         requires watched { IsNamed names.old self.old.notes.from × IsNamed names.old self.old.notes.to }
@@ -201,7 +201,7 @@ impl Machine {
         ensures more { IfOk result (λ s. s ≡ ExpStep.More) }
         ensures grows { Grows names.old names.new }
         ensures limit { self.new.used ≤ LIMIT }
-        ensures length { OnOk result (length names.new ≤ length names.old + 2 * length m.now.body) }
+        ensures length { length names.new ≤ length names.old + length m.now.body }
     {
         let _ = self.slots.pop_front();
         let hide = with_one(names, &mut self.sets, h.hide, h.token.text)?;
@@ -298,7 +298,7 @@ impl Machine {
         ensures same { OnOk result (IsSameRun self.old self.new × (self.new.frames.items ≡ self.old.frames.items)) }
         ensures grows { Grows names.old names.new }
         ensures limit { self.new.used ≤ LIMIT }
-        ensures length { OnOk result (length names.new ≤ length names.old + 2 ^ 26) }
+        ensures length { length names.new ≤ length names.old + 2 ^ 25 }
     {
         match macros.lookup(frame.name().token.text) {
             None => unreachable!(),
@@ -332,7 +332,7 @@ impl Machine {
         ensures named { IfOk result (λ o. IfSome o (λ s. IsOutKnown names.new s)) }
         ensures grows { Grows names.old names.new }
         ensures limit { self.new.used ≤ LIMIT }
-        ensures length { OnOk result (length names.new ≤ length names.old + 2 ^ 26) }
+        ensures length { length names.new ≤ length names.old + 2 ^ 25 }
     {
         let _ = self.slots.pop_front();
         let Some(mut frame) = self.frames.pop() else {
@@ -374,7 +374,7 @@ impl Machine {
         ensures same { OnOk result (IsSameRun self.old self.new) }
         ensures smaller { IfOk result (λ o. o ≡ None → length self.new.slots.items < length self.old.slots.items) }
         ensures limit { self.new.used ≤ LIMIT }
-        ensures length { OnOk result (length names.new ≤ length names.old + 2 ^ 26) }
+        ensures length { length names.new ≤ length names.old + 2 ^ 25 }
     {
         expansion_follows_the_rules();
         let turn = turn_of(names, macros, &self.sets, &self.slots, ahead, self.finished);
@@ -434,7 +434,7 @@ impl Machine {
         ensures grows { Grows names.old names.new }
         ensures same { OnOk result (IsSameRun self.old self.new) }
         ensures limit { self.new.used ≤ LIMIT }
-        ensures length { OnOk result (length names.new ≤ length names.old + 2 ^ 26) }
+        ensures length { length names.new ≤ length names.old + 2 ^ 25 }
     {
         loop {
             let before = self.slots.len();

@@ -99,6 +99,7 @@ fn take_part(
     ensures sets_grow { OnOk result (Grows sets.old sets.new) }
     ensures tables { OnOk result (AreTables names.new sets.new) }
     ensures length { OnOk result (length names.new + pending state.new.pasting ≤ length names.old + pending state.old.pasting + joins (part ∷ [])) }
+    ensures most { length names.new ≤ length names.old + pending state.old.pasting + joins (part ∷ []) }
     ensures same { (notes.new.from ≡ notes.old.from) × (notes.new.to ≡ notes.old.to) }
 {
     match part {
@@ -147,7 +148,7 @@ pub fn paste_all(
     ensures grows { Grows names.old names.new }
     ensures sets_grow { OnOk result (Grows sets.old sets.new) }
     ensures tables { OnOk result (AreTables names.new sets.new) }
-    ensures length { OnOk result (length names.new ≤ length names.old + joins parts.now) }
+    ensures length { length names.new ≤ length names.old + joins parts.now }
     ensures same { OnOk result ((notes.new.from ≡ notes.old.from) × (notes.new.to ≡ notes.old.to)) }
 {
     let mut state = Pasting {

@@ -19,7 +19,7 @@ fn literal(names: &mut NameTable, kind: PpKind, text: &[u8]) -> Result<(PpKind, 
     requires { length names.old < 2 ^ 32 - 1 }
     ensures given { IfOk result (λ given. IsGivenText names.old names.new (kind, text.now) given) }
     ensures grows { Grows names.old names.new }
-    ensures length { OnOk result (length names.new ≤ length names.old + 1) }
+    ensures length { length names.new ≤ length names.old + 1 }
 {
     let name = names.intern(text)?;
     Ok((kind, name))
@@ -37,7 +37,7 @@ fn text_for(
     requires file { IsNamed names.old file }
     ensures given { IfOk result (λ given. IsGivenText names.old names.new (spec.predefined_token (text_of names.old file) line p) given) }
     ensures grows { Grows names.old names.new }
-    ensures length { OnOk result (length names.new ≤ length names.old + 1) }
+    ensures length { length names.new ≤ length names.old + 1 }
 {
     let mut buffer = Buffer::new();
     let literal_text: (PpKind, &[u8]) = match p {
@@ -69,7 +69,7 @@ pub fn predefined_token(
     ensures named { IfOk result (λ t. IsNamed names.new t.text) }
     ensures grows { Grows names.old names.new }
     ensures distinct { OnOk result (IsDistinct names.new) }
-    ensures length { OnOk result (length names.new ≤ length names.old + 1) }
+    ensures length { length names.new ≤ length names.old + 1 }
 {
     let (kind, text) = text_for(names, file, name.line, p)?;
     Ok(made(name, kind, text, name.space))

@@ -141,7 +141,7 @@ pub fn subst(
     full: &[Vec<Held>],
     hide: HideSet,
 ) -> Result<Vec<Held>, ExpandFault>
-    requires room { length names.old + 2 * length m.now.body < 2 ^ 32 - 1 }
+    requires room { length names.old + length m.now.body < 2 ^ 32 - 1 }
     requires tables { AreTables names.old sets.old }
     requires name { IsTokenNamed names.old name }
     requires watched { IsNamed names.old notes.old.from × IsNamed names.old notes.old.to }
@@ -155,7 +155,7 @@ pub fn subst(
     ensures grows { Grows names.old names.new }
     ensures sets_grow { OnOk result (Grows sets.old sets.new) }
     ensures tables { OnOk result (AreTables names.new sets.new) }
-    ensures length { OnOk result (length names.new ≤ length names.old + 2 * length m.now.body) }
+    ensures length { length names.new ≤ length names.old + length m.now.body }
     ensures same { OnOk result ((notes.new.from ≡ notes.old.from) × (notes.new.to ≡ notes.old.to)) }
 {
     let items = prepared(alloc, names, notes, name, m, raw)?;

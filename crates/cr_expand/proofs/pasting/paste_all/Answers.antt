@@ -2,7 +2,7 @@ use Rattle.std.proofs.Common.{length, ◌∙◌, ◌+◌, rules, arith, drop}
 use Rattle.std.proofs.lemmas.Result.{err_from_is_err_and}
 use Rattle.std.proofs.lemmas.List.{drop_all}
 use Rattle.cr_expand.specs.Held.{watch_of}
-use Rattle.cr_expand.proofs.Joins.{joins_room}
+use Rattle.cr_expand.proofs.Joins.{joins_room, joins_most}
 use Rattle.cr_expand.specs.Pasting.{pending}
 use Rattle.cr_expand.proofs.Kept.{watch_kept}
 use Rattle.cr_expand.proofs.Telling.{stops_memory}
@@ -36,3 +36,7 @@ returns-clause-does c = λ hide.
 
 pub returns-clause-known : goal.returns-clause-known
 returns-clause-known c = pasting_known c.loop-i.names c.loop-i.sets c.loop-i.state c.put.new.out.items c.in_ok-put.ensures c.loop-i.invariant.pasting.known
+
+pub returns-in_err-take_part-clause-length : goal.returns-in_err-take_part-clause-length
+returns-in_err-take_part-clause-length c =
+    joins_most c.args.parts.now c.loop-i.i _ (length c.args.names.now) (length c.loop-i.names) (length c.take_part.new.names) (pending c.loop-i.state.pasting) c.loop-i-test.true c.in_err-take_part.ensures.most c.loop-i.invariant.room

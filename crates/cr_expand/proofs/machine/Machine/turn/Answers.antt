@@ -133,6 +133,11 @@ returns-in_ok-step-in-Object-clause-machine c =
     let w = put_from c.args.names.now c.object.new.names c.args.self.now c.object.new.self _ (drop 1 c.args.self.now.slots.items) u.0.0 (ap (drop 1) u.0.1) c.in_ok-step-in-Object.ensures.put in
     object_machine c.args.names.now c.object.new.names c.args.macros.now c.args.self.now c.object.new.self c.requires.machine c.requires.macros w.names_grow w.sets_grow e.0 w.tables c.in-Object.h u.0.0 w.list u.0.1 w.slots w.known e.1 w.limit
 
+pub returns-in_err-step-in-Object-clause-length : goal.returns-in_err-step-in-Object-clause-length
+returns-in_err-step-in-Object-clause-length c =
+    let u = next_object c.args.names.now c.args.self.now.sets c.args.macros.now (text_of c.args.names.now c.args.self.now.file) [] c.args.self.now.slots.items c.in-Object.h c.in-Object.m (c.in-Object.ensures.means (text_of c.args.names.now c.args.self.now.file) [] (λ _. refl)) in
+    omega (arith, c.in_err-step-in-Object.ensures.length, found_short c.args.names.now c.args.macros.now c.in-Object.h.token.text c.in-Object.m.now c.requires.macros u.1)
+
 pub returns-in_ok-step-in-Object-clause-length : goal.returns-in_ok-step-in-Object-clause-length
 returns-in_ok-step-in-Object-clause-length c =
     let u = next_object c.args.names.now c.args.self.now.sets c.args.macros.now (text_of c.args.names.now c.args.self.now.file) [] c.args.self.now.slots.items c.in-Object.h c.in-Object.m (c.in-Object.ensures.means (text_of c.args.names.now c.args.self.now.file) [] (λ _. refl)) in
