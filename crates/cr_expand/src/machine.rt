@@ -1,5 +1,5 @@
 //! The uses of the rules of macro expansion, one after another.
-ghost use Rattle.std.specs.Prelude.{◌≡◌, ◌<◌, ◌≤◌, ◌+◌, ◌-◌, ◌^◌, ◌*◌, ◌++◌, ◌∷◌, [], List, IfOk, IfErr, IfSome, OnOk, length, map, drop, ◌⊎◌, MatchResult, if◌then◌else◌, true, None, Some, Ok, Err};
+ghost use Rattle.std.specs.Prelude.{◌≡◌, ◌<◌, ◌≤◌, ◌+◌, ◌-◌, ◌^◌, ◌++◌, ◌∷◌, [], List, IfOk, IfErr, IfSome, OnOk, length, map, drop, ◌⊎◌, MatchResult, if◌then◌else◌, true, None, Some, Ok, Err};
 ghost use Rattle.std.specs.List.{All};
 ghost use Rattle.cr_macros.specs.Tokens.{Text, Token, with_name};
 ghost use Rattle.cr_macros.specs.MacroTables.{macro_text};

@@ -1,5 +1,5 @@
 //! What is put in for a macro's name (C11 6.10.3.1 to 6.10.3.3).
-ghost use Rattle.std.specs.Prelude.{◌≡◌, ◌+◌, ◌-◌, ◌<◌, ◌≤◌, ◌^◌, ◌*◌, ◌++◌, ◌∷◌, [], IfOk, IfErr, OnOk, length, List, map, Bool, ℕ, false, ◌||◌, if◌then◌else◌, flat_map, slice_index_or, vec_len};
+ghost use Rattle.std.specs.Prelude.{◌≡◌, ◌+◌, ◌-◌, ◌<◌, ◌≤◌, ◌^◌, ◌++◌, ◌∷◌, [], IfOk, IfErr, OnOk, length, List, map, Bool, ℕ, false, ◌||◌, if◌then◌else◌, flat_map, slice_index_or, vec_len};
 ghost use Rattle.std.specs.List.{list_any, All};
 ghost use Rattle.cr_expand.specs.declared.items.Item.{Item as TheItem};
 ghost use Rattle.cr_macros.specs.Substitution as spec;
