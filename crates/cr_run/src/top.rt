@@ -1,13 +1,14 @@
 //! The top call.
-ghost use Rattle.std.specs.Prelude.{◌≡◌, ◌≢◌, ◌⊎◌, ◌++◌, List, ℕ, map, string_bytes, Some, Ok, Err, codes, decimal};
-ghost use Rattle.cr_world.specs.Outside.{Files, Rose};
+ghost use Rattle.std.specs.Prelude.{◌≡◌, ◌≢◌, ◌⊎◌, ◌++◌, List, ℕ, false, map, take, string_bytes, Some, Ok, Err, codes, decimal};
+ghost use Rattle.cr_world.specs.Outside.{Files, Rose, OnlyRead};
+ghost use Rattle.cr_run.specs.Goal.{Goal, goal_of};
 ghost use Rattle.cr_run.specs.Renames.{Rename};
 ghost use Rattle.cr_run.specs.Outcome.{IsOutcome, Outcome};
 ghost use Rattle.cr_run.specs.Report.{report_of};
 ghost use Rattle.cr_run.specs.Keeps.{Keeps};
-ghost use Rattle.cr_run.specs.Reading.{MayRead};
+ghost use Rattle.cr_run.specs.Reading.{MayRead, ReadsByItself};
 ghost use Rattle.cr_run.specs.Told.{Gained, GainedFront, Tells, line_of};
-ghost use Rattle.cr_run.specs.Written.{IsHalfWritten, files_after, fault_text};
+ghost use Rattle.cr_run.specs.Written.{IsHalfWritten, files_after, replaced_by, fault_text};
 ghost use Rattle.cr_run.specs.Top.{Holds, IsDecided, NoneRose, decided_status};
 
 use crate::laws::{an_accepted_rename_keeps_the_meaning, the_outcome_is_one};
@@ -82,8 +83,24 @@ pub fn crename_serial<T: Tree, O: Sink, E: Sink>(
         × Holds (T.files tree.new) (files_after r files)
         × GainedFront (O.bytes out.old) (O.bytes out.new) (report_of files r)) }
 
-    // Every answer but 0, 16 and 18 leaves the files and the output as they were.
-    ensures unchanged { (result ≡ 0 → ⊥) → (result ≡ 16 → ⊥) → (result ≡ 18 → ⊥) → (T.files tree.new ≡ T.files tree.old) × (out.new ≡ out.old) }
+    // Whatever is answered, only the database and the source that the words name were read, and main files of units of the
+    // database, as it was read; where the tree tells its files, of the database that stands there.
+    ensures reads_only { ReadsByItself (map string_bytes words.now) (T.readings tree.old) (T.readings tree.new) }
+    ensures reads_told { (files : Files) → T.files tree.old ≡ Some files
+        → OnlyRead (MayRead (map string_bytes words.now) files) (T.readings tree.old) (T.readings tree.new) }
+
+    // Whatever is answered, nothing was replaced without `-i`,
+    ensures replaces_none { (goal : Goal) → goal_of (map string_bytes words.now) ≡ Ok goal → goal.in_place ≡ false
+        → T.replacings tree.new ≡ T.replacings tree.old }
+
+    // and with it only first ones of the files that the decided rename changes, in their order.
+    ensures replaces_only { (files : Files) → T.files tree.old ≡ Some files
+        → (r : Rename) → IsOutcome (map string_bytes words.now) files (Ok r)
+        → (n : ℕ) × (T.replacings tree.new ≡ T.replacings tree.old ++ take n (replaced_by r)) }
+
+    // Every answer but 0, 16 and 18 leaves the files and the output as they were, and asked for no replace.
+    ensures unchanged { (result ≡ 0 → ⊥) → (result ≡ 16 → ⊥) → (result ≡ 18 → ⊥) → (T.files tree.new ≡ T.files tree.old)
+        × (T.replacings tree.new ≡ T.replacings tree.old) × (out.new ≡ out.old) }
 
     // No other status is answered.
     ensures statuses { IsDecided result ⊎ (result ≡ 0) ⊎ (result ≡ 4) ⊎ (result ≡ 16) ⊎ (result ≡ 17) ⊎ (result ≡ 18) }
