@@ -1,12 +1,12 @@
 -- Which refusal a status means, and what the writes leave.
 use Rattle.std.proofs.Common.{◌≡◌, ◌⊎◌, inl, inr, ℕ, zero, suc, ◌+◌, Bool, true, false, ◌||◌, List, [], ◌∷◌, ◌++◌, map, take, Option, Some, None, slice_get, refl, sym, ap, ◌∙◌, subst, arith}
-use Rattle.std.specs.Prelude.{codes, Ok, Err, bytes_eq, if◌then◌else◌}
+use Rattle.std.specs.Prelude.{codes, Err, bytes_eq, if◌then◌else◌}
 use Rattle.std.specs.List.{list_any}
 use Rattle.std.specs.Option.{option_map}
 use Rattle.std.proofs.lemmas.Option.{slice_get-map}
 use Rattle.std.proofs.lemmas.Slice.Eq.{bytes_eq-Decides}
 use Rattle.cr_world.specs.Outside.{Files}
-use Rattle.cr_run.specs.Goal.{Goal, goal_of}
+use Rattle.cr_run.specs.Goal.{IsInPlace}
 use Rattle.cr_run.specs.Renames.{Rename, renamed_files}
 use Rattle.cr_run.specs.Outcome.{Outcome}
 use Rattle.cr_run.specs.Reading.{HasReadCause}
@@ -222,7 +222,7 @@ fault_of writes w n (edits, is) at =
     let f = write_at edits 0 n w (ap (λ l. slice_get l n) (sym is) ∙ at) in
     f.3 ∙ ap (fault_text f.0.path) (let e : 0 + n ≡ n = omega arith in e) ∙ ap (λ (z : CodeEdit). fault_text z.path n) (sym f.2)
 
--- the code's writes are numbered, and there are none where nothing is to be replaced
+-- the code's writes are numbered
 pub writes_for : (words : List (List ℕ)) (ws : List Write) → AreWritesFor words ws → AreWrites ws
 writes_for words ws (goal, e, edited) = by goal.in_place edited.1
   where
@@ -230,7 +230,18 @@ writes_for words ws (goal, e, edited) = by goal.in_place edited.1
     by true is = (edited.0, is)
     by false is = ([], is)
 
-pub writes_none : (words : List (List ℕ)) (ws : List Write) → AreWritesFor words ws → (goal : Goal) → goal_of words ≡ Ok goal → goal.in_place ≡ false → ws ≡ []
-writes_none words ws (own, e, edited) goal h none =
-    let same : own ≡ goal = cc in
-    edited.1 ∙ ap (λ (g : Goal). writes_if g.in_place edited.0) same ∙ ap (λ b. writes_if b edited.0) none
+-- Without `-i` there are none,
+pub writes_none : (words : List (List ℕ)) (ws : List Write) → AreWritesFor words ws → (IsInPlace words → ⊥) → ws ≡ []
+writes_none words ws (goal, e, edited) away = by goal.in_place refl edited.1
+  where
+    by : (b : Bool) → goal.in_place ≡ b → ws ≡ writes_if b edited.0 → ws ≡ []
+    by true asked is = absurd (away (goal, e, asked))
+    by false asked is = is
+
+-- so that where there is one, the words ask for it.
+pub in_place : (words : List (List ℕ)) (ws : List Write) (w : Write) (n : ℕ) → AreWritesFor words ws → slice_get ws n ≡ Some w → IsInPlace words
+in_place words ws w n (goal, e, edited) at = by goal.in_place refl edited.1
+  where
+    by : (b : Bool) → goal.in_place ≡ b → ws ≡ writes_if b edited.0 → IsInPlace words
+    by true asked is = (goal, e, asked)
+    by false asked is = let none : None ≡ Some w = ap (λ l. slice_get l n) (sym is) ∙ at in let bad : ⊥ = cc in absurd bad

@@ -41,8 +41,8 @@ asked_more ws i w before mid now h held one =
     one ∙ ap (λ l. l ++ w.edit.path ∷ []) held ∙ append_assoc before (take i (paths_of ws)) (w.edit.path ∷ []) ∙ ap (λ l. before ++ l) (sym (paths_more ws i w h))
 
 -- where nothing is to be written, no replace was asked for
-pub none_asked : (ws : List Write) (n : ℕ) (before now : List (List ℕ)) → ws ≡ [] → now ≡ before ++ take n (paths_of ws) → now ≡ before
-none_asked ws n before now none asked = asked ∙ ap (λ l. before ++ take n (paths_of l)) none ∙ ap (λ l. before ++ l) (taken n) ∙ append-nil before
+pub none_asked : (ws : List Write) (n : ℕ) (before mid now : List (List ℕ)) → ws ≡ [] → mid ≡ before → now ≡ mid ++ take n (paths_of ws) → now ≡ before
+none_asked ws n before mid now none same asked = asked ∙ ap (λ l. mid ++ take n (paths_of l)) none ∙ ap (λ l. mid ++ l) (taken n) ∙ append-nil mid ∙ same
   where
     taken : (n : ℕ) → take n (paths_of []) ≡ []
     taken zero = refl

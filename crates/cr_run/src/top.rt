@@ -1,7 +1,7 @@
 //! The top call.
-ghost use Rattle.std.specs.Prelude.{◌≡◌, ◌≢◌, ◌⊎◌, ◌++◌, List, ℕ, false, map, take, string_bytes, Some, Ok, Err, codes, decimal};
+ghost use Rattle.std.specs.Prelude.{◌≡◌, ◌≢◌, ◌⊎◌, ◌++◌, List, ℕ, map, take, string_bytes, Some, Ok, Err, codes, decimal};
 ghost use Rattle.cr_world.specs.Outside.{Files, Rose, OnlyRead};
-ghost use Rattle.cr_run.specs.Goal.{Goal, goal_of};
+ghost use Rattle.cr_run.specs.Goal.{IsInPlace};
 ghost use Rattle.cr_run.specs.Renames.{Rename};
 ghost use Rattle.cr_run.specs.Outcome.{IsOutcome, Outcome};
 ghost use Rattle.cr_run.specs.Report.{report_of};
@@ -62,11 +62,11 @@ pub fn crename_serial<T: Tree, O: Sink, E: Sink>(
         × Tells (E.bytes err.old) (E.bytes err.new) (E.faults err.old) (E.faults err.new) (line_of (codes "read fault: " ++ path))
         × ((files : Files) → T.files tree.old ≡ Some files → MayRead (map string_bytes words.now) files path) }
 
-    // 16: files are to be written, and a replace of the path that the line names failed in this call. The first n of
+    // 16: the words ask that files are written, and a replace of the path that the line names failed in this call. The first n of
     // the files that change are new, this one is old or new, all others are old, and nothing is printed.
     ensures write_fault { result ≡ 16 → (path : List ℕ) × (n : ℕ) × Rose (T.replaces tree.old path) (T.replaces tree.new path)
         × Tells (E.bytes err.old) (E.bytes err.new) (E.faults err.old) (E.faults err.new) (line_of (codes "write fault: " ++ fault_text path n))
-        × (out.new ≡ out.old)
+        × IsInPlace (map string_bytes words.now) × (out.new ≡ out.old)
         × ((files : Files) → T.files tree.old ≡ Some files
         → (r : Rename) × IsOutcome (map string_bytes words.now) files (Ok r)
         × (told : Files) × (T.files tree.new ≡ Some told) × IsHalfWritten n path r files told) }
@@ -90,8 +90,7 @@ pub fn crename_serial<T: Tree, O: Sink, E: Sink>(
         → OnlyRead (MayRead (map string_bytes words.now) files) (T.readings tree.old) (T.readings tree.new) }
 
     // Whatever is answered, nothing was replaced without `-i`,
-    ensures replaces_none { (goal : Goal) → goal_of (map string_bytes words.now) ≡ Ok goal → goal.in_place ≡ false
-        → T.replacings tree.new ≡ T.replacings tree.old }
+    ensures replaces_none { (IsInPlace (map string_bytes words.now) → ⊥) → T.replacings tree.new ≡ T.replacings tree.old }
 
     // and with it only first ones of the files that the decided rename changes, in their order.
     ensures replaces_only { (files : Files) → T.files tree.old ≡ Some files

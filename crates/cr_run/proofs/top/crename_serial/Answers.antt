@@ -8,8 +8,9 @@ use Rattle.cr_run.specs.Writing.{written, IsStopped}
 use Rattle.cr_run.specs.Top.{IsDecided, decided_status}
 use Rattle.cr_run.specs.declared.plan.Plan.{Plan}
 use Rattle.cr_run.proofs.TopLemmas.{decided_at, told_read, told_memory, complete_err, written_if, half_written, fault_of}
+use Rattle.cr_run.proofs.Writes.{none_asked}
 use Rattle.cr_run.proofs.top.crename_serial.Goals as goal
-use Rattle.cr_run.proofs.TopLemmas.{asked_first, writes_for}
+use Rattle.cr_run.proofs.TopLemmas.{asked_first, writes_for, writes_none, in_place}
 
 pub returns-in-Err-clause-refused : goal.returns-in-Err-clause-refused
 returns-in-Err-clause-refused g c d files told =
@@ -45,6 +46,7 @@ returns-in-Some-clause-write_fault g c e =
       stop.0,
       subst (λ n. Rose n (g.T.Tree.replaces c.replace_all.new.tree w.edit.path)) (c.in-Ok.ensures.reads.stay w.edit.path) c.in-Some.ensures.failed,
       subst (λ t. Tells (g.E.Sink.bytes c.args.err.now) (g.E.Sink.bytes c.tell.new.err) (g.E.Sink.faults c.args.err.now) (g.E.Sink.faults c.tell.new.err) (line_of (codes "write fault: " ++ t))) fault c.tell.ensures,
+      in_place (map string_bytes c.args.words.now) c.in-Ok.plan.writes.items w stop.0 c.in-Ok.ensures.writes (ap (λ l. slice_get l stop.0) (sym c.deref.ensures.value) ∙ stop.1),
       refl,
       λ files told.
           let m = c.every_text_is_decided.ensures in
@@ -119,3 +121,18 @@ returns-clause-replaces_only g c files told r is =
     let same : plan.0 ≡ r = cc in
     let asked = c.replace_all.ensures.asked in
     (asked.0, asked_first files plan.0 plan.2.edits plan.2.are plan.2.each plan.2.apart r same c.deref.result.now asked.0 _ _ _ (c.deref.ensures.value ∙ plan.2.writes) c.in-Ok.ensures.reads.none asked.1)
+
+pub returns-in-Some-clause-replaces_none : goal.returns-in-Some-clause-replaces_none
+returns-in-Some-clause-replaces_none g c away =
+    let asked = c.replace_all.ensures.asked in
+    none_asked c.deref.result.now asked.0 _ _ _ (c.deref.ensures.value ∙ writes_none (map string_bytes c.args.words.now) c.in-Ok.plan.writes.items c.in-Ok.ensures.writes away) c.in-Ok.ensures.reads.none asked.1
+
+pub returns-in-Done-clause-replaces_none : goal.returns-in-Done-clause-replaces_none
+returns-in-Done-clause-replaces_none g c away =
+    let asked = c.replace_all.ensures.asked in
+    none_asked c.deref.result.now asked.0 _ _ _ (c.deref.ensures.value ∙ writes_none (map string_bytes c.args.words.now) c.in-Ok.plan.writes.items c.in-Ok.ensures.writes away) c.in-Ok.ensures.reads.none asked.1
+
+pub returns-clause-replaces_none : goal.returns-clause-replaces_none
+returns-clause-replaces_none g c away =
+    let asked = c.replace_all.ensures.asked in
+    none_asked c.deref.result.now asked.0 _ _ _ (c.deref.ensures.value ∙ writes_none (map string_bytes c.args.words.now) c.in-Ok.plan.writes.items c.in-Ok.ensures.writes away) c.in-Ok.ensures.reads.none asked.1
