@@ -10,8 +10,11 @@ use std::snapshot::Snapshot;
 #[derive(Drop)]
 #[cycle(history)]
 pub enum History {
+    /// No call.
     Start,
+    /// The last call is a read.
     Read(Snapshot<ReadCall>),
+    /// The last call is a replace.
     Replace(Snapshot<ReplaceCall>),
 }
 
