@@ -1,7 +1,7 @@
 //! Files that are wanted are read, and made known.
 ghost use Rattle.std.specs.Prelude.{◌≡◌, ◌≤◌, ◌<◌, ◌∷◌, ℕ, List as ListOf, [], length, Some, None, Ok, Err, true, false, IfOk, IsTrue};
 ghost use Rattle.std.specs.List.{Contains};
-ghost use Rattle.cr_world.specs.Outside.{Files, Rose};
+ghost use Rattle.cr_world.specs.Outside.{Files, Rose, OnlyRead};
 ghost use Rattle.cr_snapshot.specs.Files.{finding, Unknown};
 ghost use Rattle.cr_snapshot.specs.IncludeSearch as search;
 ghost use Rattle.cr_growth.specs.Growth.{with_path, with_wanted, is_there};
@@ -78,7 +78,8 @@ fn read_path<T: Tree>(
 ) -> Result<(), GrowFault>
     requires unknown { finding path.now snapshot.old ≡ Unknown }
     requires plain { search.is_apart path.now ≡ false }
-    ensures reads { ReadsOnly (T.files tree.old) (T.files tree.new) (T.reads tree.old) (T.reads tree.new) (T.replaces tree.old) (T.replaces tree.new) }
+    ensures reads { ReadsOnly (T.files tree.old) (T.files tree.new) (T.reads tree.old) (T.reads tree.new) (T.replaces tree.old) (T.replaces tree.new) (T.replacings tree.old) (T.replacings tree.new) }
+    ensures asked { OnlyRead (λ p. p ≡ path.now) (T.readings tree.old) (T.readings tree.new) }
     ensures grows { (files : Files) → T.files tree.old ≡ Some files → Grows (with_path files path.now snapshot.old Unknown) snapshot.old snapshot.new result }
     ensures cause { HasCause (λ p. (p ≡ path.now) × Rose (T.reads tree.old p) (T.reads tree.new p)) result }
 {
@@ -102,7 +103,8 @@ fn know_path<T: Tree>(
     snapshot: &mut Snapshot,
     path: &PathText,
 ) -> Result<(), GrowFault>
-    ensures reads { ReadsOnly (T.files tree.old) (T.files tree.new) (T.reads tree.old) (T.reads tree.new) (T.replaces tree.old) (T.replaces tree.new) }
+    ensures reads { ReadsOnly (T.files tree.old) (T.files tree.new) (T.reads tree.old) (T.reads tree.new) (T.replaces tree.old) (T.replaces tree.new) (T.replacings tree.old) (T.replacings tree.new) }
+    ensures asked { OnlyRead (λ p. p ≡ path.now) (T.readings tree.old) (T.readings tree.new) }
     ensures grows { (files : Files) → T.files tree.old ≡ Some files → Grows (with_path files path.now snapshot.old (finding path.now snapshot.old)) snapshot.old snapshot.new result }
     ensures cause { HasCause (λ p. (p ≡ path.now) × Rose (T.reads tree.old p) (T.reads tree.new p)) result }
 {
@@ -122,15 +124,16 @@ fn know_path<T: Tree>(
 /// begins with `//` has no file.
 ///
 /// `LimitFiles` comes exactly where a limit on files would be passed. `ReadFault` comes only where a read of the path that
-/// it names, one of these paths, failed in this call. No file of the tree changes; what was made known before an error
-/// stays known.
+/// it names, one of these paths, failed in this call. No file of the tree changes, and none but these paths is read; what
+/// was made known before an error stays known.
 pub fn know_wanted<T: Tree>(
     alloc: Global,
     tree: &mut T,
     snapshot: &mut Snapshot,
     paths: &[PathText],
 ) -> Result<(), GrowFault>
-    ensures reads { ReadsOnly (T.files tree.old) (T.files tree.new) (T.reads tree.old) (T.reads tree.new) (T.replaces tree.old) (T.replaces tree.new) }
+    ensures reads { ReadsOnly (T.files tree.old) (T.files tree.new) (T.reads tree.old) (T.reads tree.new) (T.replaces tree.old) (T.replaces tree.new) (T.replacings tree.old) (T.replacings tree.new) }
+    ensures asked { OnlyRead (λ p. Contains paths.now p) (T.readings tree.old) (T.readings tree.new) }
     ensures grows { (files : Files) → T.files tree.old ≡ Some files → Grows (with_wanted files paths.now snapshot.old) snapshot.old snapshot.new result }
     ensures cause { HasCause (λ p. Contains paths.now p × Rose (T.reads tree.old p) (T.reads tree.new p)) result }
 {

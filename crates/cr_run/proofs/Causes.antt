@@ -30,12 +30,13 @@ rose_earlier a b c h r = omega arith
 pub rose_later : (a b c : ℕ) → Rose a b → b ≤ c → Rose a c
 rose_later a b c r h = omega arith
 
-pub reads_none : (f : Option Files) (r p : Counts) → ReadsOnly f f r r p p
-reads_none f r p = record { same = refl; later = λ path. omega arith; stay = λ path. refl }
+pub reads_none : (f : Option Files) (r p : Counts) (w : List (List ℕ)) → ReadsOnly f f r r p p w w
+reads_none f r p w = record { same = refl; later = λ path. omega arith; stay = λ path. refl; none = refl }
 
-pub reads_both : (f f' f'' : Option Files) (r r' r'' p p' p'' : Counts) → ReadsOnly f f' r r' p p' → ReadsOnly f' f'' r' r'' p' p'' → ReadsOnly f f'' r r'' p p''
-reads_both f f' f'' r r' r'' p p' p'' one two = record {
+pub reads_both : (f f' f'' : Option Files) (r r' r'' p p' p'' : Counts) (w w' w'' : List (List ℕ)) → ReadsOnly f f' r r' p p' w w' → ReadsOnly f' f'' r' r'' p' p'' w' w'' → ReadsOnly f f'' r r'' p p'' w w''
+reads_both f f' f'' r r' r'' p p' p'' w w' w'' one two = record {
   same = two.same ∙ one.same;
   later = λ path. let a = one.later path in let b = two.later path in omega (arith, a, b);
   stay = λ path. two.stay path ∙ one.stay path;
+  none = two.none ∙ one.none;
 }

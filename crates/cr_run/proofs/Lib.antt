@@ -3,6 +3,7 @@ pub mod EditLemmas
 pub mod Writes
 pub mod Surveys
 pub mod Causes
+pub mod Readings
 pub mod Lookups
 pub mod Tables
 pub mod Findings

@@ -6,16 +6,17 @@ use Rattle.std.specs.Option.{option_map}
 use Rattle.std.proofs.lemmas.Option.{slice_get-map}
 use Rattle.std.proofs.lemmas.Slice.Eq.{bytes_eq-Decides}
 use Rattle.cr_world.specs.Outside.{Files}
+use Rattle.cr_run.specs.Goal.{IsInPlace}
 use Rattle.cr_run.specs.Renames.{Rename, renamed_files}
 use Rattle.cr_run.specs.Outcome.{Outcome}
 use Rattle.cr_run.specs.Reading.{HasReadCause}
 use Rattle.cr_run.specs.Refusals.{status_of, text_of, refused_of, IfDecided}
 use Rattle.cr_run.specs.Told.{Tells, line_of}
 use Rattle.cr_run.specs.Top.{IsDecided, decided_status}
-use Rattle.cr_run.specs.Written.{changed_paths, files_if, after_first, IsHalfWritten, fault_text}
-use Rattle.cr_run.specs.Writing.{AreWrites, writes_from, written, IsStopped}
+use Rattle.cr_run.specs.Written.{changed_paths, replaced_if, replaced_by, files_if, after_first, IsHalfWritten, fault_text}
+use Rattle.cr_run.specs.Writing.{AreWrites, writes_from, paths_of, written, IsStopped}
 use Rattle.cr_run.specs.Seen.{edit_of_code}
-use Rattle.cr_run.specs.Planning.{Apart, AreEdited, writes_if}
+use Rattle.cr_run.specs.Planning.{Apart, AreEdited, AreWritesFor, writes_if}
 use Rattle.cr_run.specs.declared.edits.FileEdit.{FileEdit as CodeEdit}
 use Rattle.cr_run.specs.declared.write.Write.{Write}
 use Rattle.cr_run.specs.declared.refusal.Refusal.{Refusal}
@@ -155,6 +156,21 @@ module _ (files : Files) (r : Rename) (edits : List CodeEdit) (are : map edit_of
   written_if true path = written_all files r edits are each apart path
   written_if false path = refl
 
+  -- the paths of all writes are those of the files that the rename replaces
+  pub paths_if : (b : Bool) → paths_of (writes_if b edits) ≡ replaced_if b r
+  paths_if true = from 0 edits ∙ paths files r edits are each apart
+    where
+      from : (n : ℕ) (es : List CodeEdit) → paths_of (writes_from n es) ≡ map (λ (edit : CodeEdit). edit.path) es
+      from n [] = refl
+      from n (e ∷ es) = ap (λ l. e.path ∷ l) (from (n + 1) es)
+  paths_if false = refl
+
+  -- the writes that were asked for are first ones of the files that the rename replaces
+  pub asked_first : (other : Rename) → r ≡ other → (ws : List Write) (n : ℕ) (before mid now : List (List ℕ)) → ws ≡ writes_if r.in_place edits → mid ≡ before → now ≡ mid ++ take n (paths_of ws) → now ≡ before ++ take n (replaced_by other)
+  asked_first other same ws n before mid now writes none asked =
+      asked ∙ ap (λ l. l ++ take n (paths_of ws)) none
+      ∙ ap (λ ps. before ++ take n ps) (ap paths_of writes ∙ paths_if r.in_place ∙ ap replaced_by same)
+
   code_paths_take : (i : ℕ) → map (λ (edit : CodeEdit). edit.path) (take i edits) ≡ take i (changed_paths r)
   code_paths_take i = by edits i ∙ ap (take i) (paths files r edits are each apart)
     where
@@ -205,3 +221,27 @@ pub fault_of : (writes : List Write) (w : Write) (n : ℕ) → AreWrites writes 
 fault_of writes w n (edits, is) at =
     let f = write_at edits 0 n w (ap (λ l. slice_get l n) (sym is) ∙ at) in
     f.3 ∙ ap (fault_text f.0.path) (let e : 0 + n ≡ n = omega arith in e) ∙ ap (λ (z : CodeEdit). fault_text z.path n) (sym f.2)
+
+-- the code's writes are numbered
+pub writes_for : (words : List (List ℕ)) (ws : List Write) → AreWritesFor words ws → AreWrites ws
+writes_for words ws (goal, e, edited) = by goal.in_place edited.1
+  where
+    by : (b : Bool) → ws ≡ writes_if b edited.0 → AreWrites ws
+    by true is = (edited.0, is)
+    by false is = ([], is)
+
+-- Without `-i` there are none,
+pub writes_none : (words : List (List ℕ)) (ws : List Write) → AreWritesFor words ws → (IsInPlace words → ⊥) → ws ≡ []
+writes_none words ws (goal, e, edited) away = by goal.in_place refl edited.1
+  where
+    by : (b : Bool) → goal.in_place ≡ b → ws ≡ writes_if b edited.0 → ws ≡ []
+    by true asked is = absurd (away (goal, e, asked))
+    by false asked is = is
+
+-- so that where there is one, the words ask for it.
+pub in_place : (words : List (List ℕ)) (ws : List Write) (w : Write) (n : ℕ) → AreWritesFor words ws → slice_get ws n ≡ Some w → IsInPlace words
+in_place words ws w n (goal, e, edited) at = by goal.in_place refl edited.1
+  where
+    by : (b : Bool) → goal.in_place ≡ b → ws ≡ writes_if b edited.0 → IsInPlace words
+    by true asked is = (goal, e, asked)
+    by false asked is = let none : None ≡ Some w = ap (λ l. slice_get l n) (sym is) ∙ at in let bad : ⊥ = cc in absurd bad

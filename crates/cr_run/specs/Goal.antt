@@ -1,6 +1,6 @@
 -- What a run is to do, from the words of the command line: the refusals that the words decide alone. Our own rules,
 -- in the order of refusals.
-use Rattle.std.specs.Prelude.{ℕ, Bool, not, ◌||◌, List, [], ◌++◌, Option, Some, None, Result, Ok, Err, if◌then◌else◌, bytes_eq, codes}
+use Rattle.std.specs.Prelude.{ℕ, ◌≡◌, Bool, true, not, ◌||◌, List, [], ◌++◌, Option, Some, None, Result, Ok, Err, if◌then◌else◌, bytes_eq, codes}
 use Rattle.std.specs.Option.{option_map}
 use Rattle.cr_base.specs.Names.{is_identifier, is_keyword, is_reserved}
 use Rattle.cr_base.specs.Path.{normalised}
@@ -68,3 +68,7 @@ goal_of_request (Ok request) = goal_of_task request.task
 -- what the words ask for, or the first refusal that they decide
 unfoldable pub goal_of : List (List ℕ) → Result Goal Refused
 goal_of words = goal_of_request (read_words words)
+
+-- the words ask that the files are written
+abbrev pub IsInPlace : List (List ℕ) → Type 0
+IsInPlace words = (goal : Goal) × (goal_of words ≡ Ok goal) × (goal.in_place ≡ true)

@@ -3,6 +3,7 @@ use Rattle.std.specs.Prelude.{ℕ, ◌≡◌, Bool, true, false, List, [], ◌�
 use Rattle.std.specs.List.{list_any}
 use Rattle.cr_world.specs.Outside.{Files}
 use Rattle.cr_compdb.specs.declared.entry.Entry.{Entry}
+use Rattle.cr_run.specs.Goal.{Goal, goal_of}
 use Rattle.cr_run.specs.Units.{units_in, skips_in}
 use Rattle.cr_run.specs.Renames.{Rename, renamed_files}
 use Rattle.cr_run.specs.Outcome.{Outcome}
@@ -21,6 +22,14 @@ use Rattle.cr_run.specs.declared.refusal.Refusal.{Refusal}
 abbrev pub writes_if : Bool → List FileEdit → List Write
 writes_if true edits = writes_from 0 edits
 writes_if false edits = []
+
+-- the code's writes, where files are to be replaced, and else none
+abbrev pub AreWritesIf : Bool → List Write → Type 0
+AreWritesIf in_place writes = (edits : List FileEdit) × (writes ≡ writes_if in_place edits)
+
+-- the writes of a goal that the words give
+abbrev pub AreWritesFor : List (List ℕ) → List Write → Type 0
+AreWritesFor words writes = (goal : Goal) × (goal_of words ≡ Ok goal) × AreWritesIf goal.in_place writes
 
 -- no path stands twice
 abbrev pub Apart : List (List ℕ) → Type 0

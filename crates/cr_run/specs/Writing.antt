@@ -1,5 +1,5 @@
 -- What the code's replaces leave. No contract of a public call cites it.
-use Rattle.std.specs.Prelude.{ℕ, ◌+◌, ◌≡◌, ◌≢◌, ◌⊎◌, List, [], ◌∷◌, take, Option, Some, if◌then◌else◌, bytes_eq, slice_get}
+use Rattle.std.specs.Prelude.{ℕ, ◌+◌, ◌≡◌, ◌≢◌, ◌⊎◌, List, [], ◌∷◌, map, take, Option, Some, if◌then◌else◌, bytes_eq, slice_get}
 use Rattle.cr_world.specs.Outside.{Files}
 use Rattle.cr_run.specs.Written.{fault_text}
 use Rattle.cr_run.specs.declared.edits.FileEdit.{FileEdit}
@@ -9,6 +9,10 @@ use Rattle.cr_run.specs.declared.write.Write.{Write}
 abbrev pub writes_from : ℕ → List FileEdit → List Write
 writes_from n [] = []
 writes_from n (edit ∷ edits) = (record { edit = edit; fault = fault_text edit.path n }) ∷ writes_from (n + 1) edits
+
+-- the paths that are written
+abbrev pub paths_of : List Write → List (List ℕ)
+paths_of writes = map (λ write. write.edit.path) writes
 
 abbrev pub with_file : Write → Files → Files
 with_file write files path = if bytes_eq path write.edit.path then Some write.edit.edited else files path

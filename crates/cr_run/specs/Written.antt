@@ -1,5 +1,5 @@
 -- The files that a run replaces, in the order of their paths.
-use Rattle.std.specs.Prelude.{ℕ, ◌≡◌, ◌≢◌, ◌⊎◌, Bool, true, false, List, ◌++◌, map, take, Some, if◌then◌else◌, bytes_eq, codes, decimal, slice_get}
+use Rattle.std.specs.Prelude.{ℕ, ◌≡◌, ◌≢◌, ◌⊎◌, Bool, true, false, List, [], ◌++◌, map, take, Some, if◌then◌else◌, bytes_eq, codes, decimal, slice_get}
 use Rattle.std.specs.List.{list_any}
 use Rattle.cr_world.specs.Outside.{Files}
 use Rattle.cr_run.specs.Renames.{Rename, renamed_files}
@@ -14,6 +14,14 @@ files_if false r files = files
 
 abbrev pub files_after : Rename → Files → Files
 files_after r files = files_if r.in_place r files
+
+-- the paths of the files that a rename replaces, in order
+abbrev pub replaced_if : Bool → Rename → List (List ℕ)
+replaced_if true r = changed_paths r
+replaced_if false r = []
+
+abbrev pub replaced_by : Rename → List (List ℕ)
+replaced_by r = replaced_if r.in_place r
 
 -- the files after the first ones of those that change were replaced
 abbrev pub after_first : ℕ → Rename → Files → Files

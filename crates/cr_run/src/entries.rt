@@ -1,9 +1,9 @@
 //! The translation units of a run.
 ghost use Rattle.std.specs.Prelude.{◌≡◌, ◌++◌, Some, IfOk, OnOk, decimal};
-ghost use Rattle.cr_world.specs.Outside.{Files, Rose};
+ghost use Rattle.cr_world.specs.Outside.{Files, Rose, OnlyRead};
 ghost use Rattle.cr_compdb.specs.Database.{database};
 ghost use Rattle.cr_run.specs.Units as spec;
-ghost use Rattle.cr_run.specs.Reading.{ReadsOnly, HasReadCause};
+ghost use Rattle.cr_run.specs.Reading.{ReadsOnly, HasReadCause, AreEntriesRead, AreEntriesReadAt};
 ghost use Rattle.cr_run.specs.Refusals.{Answers};
 ghost use Rattle.cr_run.specs.Seen.{goal_of_code};
 
@@ -24,7 +24,9 @@ pub fn read_entries<'a, T: Tree>(
     tree: &mut T,
     goal: &Goal<'_>,
 ) -> Result<Vec<Entry>, Refusal<'a>>
-    ensures reads { ReadsOnly (T.files tree.old) (T.files tree.new) (T.reads tree.old) (T.reads tree.new) (T.replaces tree.old) (T.replaces tree.new) }
+    ensures reads { ReadsOnly (T.files tree.old) (T.files tree.new) (T.reads tree.old) (T.reads tree.new) (T.replaces tree.old) (T.replaces tree.new) (T.replacings tree.old) (T.replacings tree.new) }
+    ensures asked { OnlyRead (λ path. goal.now.database ≡ Some path) (T.readings tree.old) (T.readings tree.new) }
+    ensures own { IfOk result (λ v. AreEntriesRead (goal_of_code goal.now) v.items (T.readings tree.old) (T.readings tree.new)) }
     ensures decided { (files : Files) → T.files tree.old ≡ Some files
         → Answers (λ v. v.items) (spec.entries_of files (goal_of_code goal.now)) result }
     ensures cause { HasReadCause (λ path. (goal.now.database ≡ Some path) × Rose (T.reads tree.old path) (T.reads tree.new path)) result }
@@ -56,7 +58,9 @@ fn read_database<'a, T: Tree>(
     tree: &mut T,
     path: &PathText,
 ) -> Result<Vec<Entry>, Refusal<'a>>
-    ensures reads { ReadsOnly (T.files tree.old) (T.files tree.new) (T.reads tree.old) (T.reads tree.new) (T.replaces tree.old) (T.replaces tree.new) }
+    ensures reads { ReadsOnly (T.files tree.old) (T.files tree.new) (T.reads tree.old) (T.reads tree.new) (T.replaces tree.old) (T.replaces tree.new) (T.replacings tree.old) (T.replacings tree.new) }
+    ensures asked { OnlyRead (λ p. p ≡ path.now) (T.readings tree.old) (T.readings tree.new) }
+    ensures own { IfOk result (λ v. AreEntriesReadAt path.now v.items (T.readings tree.old) (T.readings tree.new)) }
     ensures decided { (files : Files) → T.files tree.old ≡ Some files
         → Answers (λ v. v.items) (spec.entries_in (files path.now)) result }
     ensures cause { HasReadCause (λ p. (p ≡ path.now) × Rose (T.reads tree.old p) (T.reads tree.new p)) result }

@@ -2,7 +2,7 @@
 ghost use Rattle.std.specs.Prelude.{◌≡◌, ◌≤◌, List, ℕ, Bool, map, string_bytes, length, Some, None, IfOk, false};
 ghost use Rattle.std.specs.Option.{option_map};
 ghost use Rattle.cr_compdb.specs.declared.entry.Entry.{Entry as EntryOf};
-ghost use Rattle.cr_world.specs.Outside.{Files, Rose};
+ghost use Rattle.cr_world.specs.Outside.{Files, Rose, OnlyRead};
 ghost use Rattle.cr_small.specs.Seen.{key_of_code, target_of_code};
 ghost use Rattle.cr_lex.specs.Lexing.{lexed};
 ghost use Rattle.cr_small.specs.Texts.{IsTextOf};
@@ -10,13 +10,12 @@ ghost use Rattle.cr_small.specs.Renaming as renaming;
 ghost use Rattle.cr_run.specs.Units.{IsMain};
 ghost use Rattle.cr_run.specs.Survey.{Meaning, IsMeaning, size_of};
 ghost use Rattle.cr_run.specs.Outcome as spec;
-ghost use Rattle.cr_run.specs.Reading.{ReadsOnly, HasReadCause, MayRead, MayReadFor};
+ghost use Rattle.cr_run.specs.Reading.{ReadsOnly, HasReadCause, MayRead, MayReadFor, ReadsForItself, ReadsByItself};
 ghost use Rattle.cr_run.specs.Refusals.{Answers};
 ghost use Rattle.cr_run.specs.Seen.{goal_of_code, skip_of_code};
 ghost use Rattle.cr_run.specs.Held.{Wanted, Holds, SurveysTo, wanted_for};
 ghost use Rattle.cr_run.specs.Table.{IsTable, RisesIn};
-ghost use Rattle.cr_run.specs.Writing.{AreWrites};
-ghost use Rattle.cr_run.specs.Planning.{IsPlan, Plans, AreParted, writes_if};
+ghost use Rattle.cr_run.specs.Planning.{IsPlan, Plans, AreParted, AreWritesIf, AreWritesFor, writes_if};
 
 use crate::edits::{FileEdit, edit_files};
 use crate::entries::read_entries;
@@ -45,8 +44,10 @@ pub fn make_plan<'a, T: Tree>(
     words: &'a [String],
     tree: &mut T,
 ) -> Result<Plan, Refusal<'a>>
-    ensures writes { IfOk result (λ plan. AreWrites plan.writes.items) }
-    ensures reads { ReadsOnly (T.files tree.old) (T.files tree.new) (T.reads tree.old) (T.reads tree.new) (T.replaces tree.old) (T.replaces tree.new) }
+    ensures writes { IfOk result (λ plan. AreWritesFor (map string_bytes words.now) plan.writes.items) }
+    ensures reads { ReadsOnly (T.files tree.old) (T.files tree.new) (T.reads tree.old) (T.reads tree.new) (T.replaces tree.old) (T.replaces tree.new) (T.replacings tree.old) (T.replacings tree.new) }
+    ensures asked { (files : Files) → T.files tree.old ≡ Some files → OnlyRead (MayRead (map string_bytes words.now) files) (T.readings tree.old) (T.readings tree.new) }
+    ensures own { ReadsByItself (map string_bytes words.now) (T.readings tree.old) (T.readings tree.new) }
     ensures decided { (meaning : Meaning) (files : Files) → IsMeaning meaning → T.files tree.old ≡ Some files
         → Plans files (spec.outcome meaning (map string_bytes words.now) files) result }
     ensures cause { HasReadCause (λ path. Rose (T.reads tree.old path) (T.reads tree.new path)
@@ -57,8 +58,10 @@ pub fn make_plan<'a, T: Tree>(
 }
 
 fn plan_goal<'a, T: Tree>(alloc: Global, tree: &mut T, goal: &Goal<'a>) -> Result<Plan, Refusal<'a>>
-    ensures writes { IfOk result (λ plan. AreWrites plan.writes.items) }
-    ensures reads { ReadsOnly (T.files tree.old) (T.files tree.new) (T.reads tree.old) (T.reads tree.new) (T.replaces tree.old) (T.replaces tree.new) }
+    ensures writes { IfOk result (λ plan. AreWritesIf goal.now.in_place plan.writes.items) }
+    ensures reads { ReadsOnly (T.files tree.old) (T.files tree.new) (T.reads tree.old) (T.reads tree.new) (T.replaces tree.old) (T.replaces tree.new) (T.replacings tree.old) (T.replacings tree.new) }
+    ensures asked { (files : Files) → T.files tree.old ≡ Some files → OnlyRead (MayReadFor (goal_of_code goal.now) files) (T.readings tree.old) (T.readings tree.new) }
+    ensures own { ReadsForItself (goal_of_code goal.now) (T.readings tree.old) (T.readings tree.new) }
     ensures decided { (meaning : Meaning) (files : Files) → IsMeaning meaning → T.files tree.old ≡ Some files
         → Plans files (spec.of_goal meaning files (goal_of_code goal.now)) result }
     ensures cause { HasReadCause (λ path. Rose (T.reads tree.old path) (T.reads tree.new path)
@@ -76,8 +79,9 @@ fn plan_entries<'a, T: Tree>(
     goal: &Goal<'a>,
     entries: &Entries,
 ) -> Result<Plan, Refusal<'a>>
-    ensures writes { IfOk result (λ plan. AreWrites plan.writes.items) }
-    ensures reads { ReadsOnly (T.files tree.old) (T.files tree.new) (T.reads tree.old) (T.reads tree.new) (T.replaces tree.old) (T.replaces tree.new) }
+    ensures writes { IfOk result (λ plan. AreWritesIf goal.now.in_place plan.writes.items) }
+    ensures reads { ReadsOnly (T.files tree.old) (T.files tree.new) (T.reads tree.old) (T.reads tree.new) (T.replaces tree.old) (T.replaces tree.new) (T.replacings tree.old) (T.replacings tree.new) }
+    ensures asked { OnlyRead (λ path. spec.IsSourceOrMain (goal_of_code goal.now) entries.now.units.items path) (T.readings tree.old) (T.readings tree.new) }
     ensures decided { (meaning : Meaning) (files : Files) (es : List EntryOf) → IsMeaning meaning → T.files tree.old ≡ Some files → AreParted es entries.now
         → Plans files (spec.of_entries meaning files (goal_of_code goal.now) es) result }
     ensures cause { HasReadCause (λ path. Rose (T.reads tree.old path) (T.reads tree.new path)
@@ -100,8 +104,9 @@ fn plan_absent<'a, T: Tree>(
     goal: &Goal<'a>,
     entries: &Entries,
 ) -> Result<Plan, Refusal<'a>>
-    ensures writes { IfOk result (λ plan. AreWrites plan.writes.items) }
-    ensures reads { ReadsOnly (T.files tree.old) (T.files tree.new) (T.reads tree.old) (T.reads tree.new) (T.replaces tree.old) (T.replaces tree.new) }
+    ensures writes { IfOk result (λ plan. AreWritesIf goal.now.in_place plan.writes.items) }
+    ensures reads { ReadsOnly (T.files tree.old) (T.files tree.new) (T.reads tree.old) (T.reads tree.new) (T.replaces tree.old) (T.replaces tree.new) (T.replacings tree.old) (T.replacings tree.new) }
+    ensures asked { OnlyRead (λ path. IsMain entries.now.units.items path) (T.readings tree.old) (T.readings tree.new) }
     ensures decided { (meaning : Meaning) (files : Files) (es : List EntryOf) → IsMeaning meaning → T.files tree.old ≡ Some files → AreParted es entries.now → files goal.now.source ≡ None
         → Plans files (spec.of_target meaning files (goal_of_code goal.now) es None) result }
     ensures cause { HasReadCause (λ path. Rose (T.reads tree.old path) (T.reads tree.new path)
@@ -128,8 +133,9 @@ fn plan_source<'a, T: Tree>(
     bytes: &[u8],
 ) -> Result<Plan, Refusal<'a>>
     requires { length bytes.now ≤ 16777216 }
-    ensures writes { IfOk result (λ plan. AreWrites plan.writes.items) }
-    ensures reads { ReadsOnly (T.files tree.old) (T.files tree.new) (T.reads tree.old) (T.reads tree.new) (T.replaces tree.old) (T.replaces tree.new) }
+    ensures writes { IfOk result (λ plan. AreWritesIf goal.now.in_place plan.writes.items) }
+    ensures reads { ReadsOnly (T.files tree.old) (T.files tree.new) (T.reads tree.old) (T.reads tree.new) (T.replaces tree.old) (T.replaces tree.new) (T.replacings tree.old) (T.replacings tree.new) }
+    ensures asked { OnlyRead (λ path. IsMain entries.now.units.items path) (T.readings tree.old) (T.readings tree.new) }
     ensures decided { (meaning : Meaning) (files : Files) (es : List EntryOf) → IsMeaning meaning → T.files tree.old ≡ Some files → AreParted es entries.now → files goal.now.source ≡ Some bytes.now
         → Plans files (spec.of_text meaning files (goal_of_code goal.now) es (lexed bytes.now)) result }
     ensures cause { HasReadCause (λ path. Rose (T.reads tree.old path) (T.reads tree.new path)
@@ -153,8 +159,9 @@ fn plan_text<'a, T: Tree>(
 ) -> Result<Plan, Refusal<'a>>
     requires size { length bytes.now ≤ 16777216 }
     requires text { IsTextOf bytes.now text.now }
-    ensures writes { IfOk result (λ plan. AreWrites plan.writes.items) }
-    ensures reads { ReadsOnly (T.files tree.old) (T.files tree.new) (T.reads tree.old) (T.reads tree.new) (T.replaces tree.old) (T.replaces tree.new) }
+    ensures writes { IfOk result (λ plan. AreWritesIf goal.now.in_place plan.writes.items) }
+    ensures reads { ReadsOnly (T.files tree.old) (T.files tree.new) (T.reads tree.old) (T.reads tree.new) (T.replaces tree.old) (T.replaces tree.new) (T.replacings tree.old) (T.replacings tree.new) }
+    ensures asked { OnlyRead (λ path. IsMain entries.now.units.items path) (T.readings tree.old) (T.readings tree.new) }
     ensures decided { (meaning : Meaning) (files : Files) (es : List EntryOf) → IsMeaning meaning → T.files tree.old ≡ Some files → AreParted es entries.now → files goal.now.source ≡ Some bytes.now
         → meaning (lexed bytes.now) ≡ Some text.now.denotes
         → Plans files (spec.of_denotes meaning files (goal_of_code goal.now) es (lexed bytes.now).tokens text.now.denotes) result }
@@ -207,7 +214,8 @@ fn survey_from<'a, T: Tree>(
     requires size { length bytes.now ≤ 16777216 }
     requires text { IsTextOf bytes.now text.now }
     requires target { option_map target_of_code target.now ≡ renaming.target_at goal.now.offset (lexed bytes.now).tokens text.now.denotes }
-    ensures reads { ReadsOnly (T.files tree.old) (T.files tree.new) (T.reads tree.old) (T.reads tree.new) (T.replaces tree.old) (T.replaces tree.new) }
+    ensures reads { ReadsOnly (T.files tree.old) (T.files tree.new) (T.reads tree.old) (T.reads tree.new) (T.replaces tree.old) (T.replaces tree.new) (T.replacings tree.old) (T.replacings tree.new) }
+    ensures asked { OnlyRead (λ path. IsMain units.now path) (T.readings tree.old) (T.readings tree.new) }
     ensures surveyed { (meaning : Meaning) (files : Files) → IsMeaning meaning → T.files tree.old ≡ Some files → files goal.now.source ≡ Some bytes.now
         → meaning (lexed bytes.now) ≡ Some text.now.denotes
         → SurveysTo meaning files (wanted_for (goal_of_code goal.now) (option_map target_of_code target.now)) units.now result }
@@ -297,7 +305,7 @@ fn planned(
     target: &Target,
 ) -> Result<Plan, OutOfMemory>
     requires { IsTable (RisesIn target.now.name.now) (Some (key_of_code target.now.key)) survey.now }
-    ensures writes { IfOk result (λ plan. AreWrites plan.writes.items) }
+    ensures writes { IfOk result (λ plan. AreWritesIf goal.now.in_place plan.writes.items) }
     ensures plan { IfOk result (λ plan. (meaning : Meaning) (files : Files) (es : List EntryOf) → AreParted es entries.now
         → Holds meaning files (wanted_for (goal_of_code goal.now) (Some (target_of_code target.now))) entries.now.units.items survey.now
         → IsPlan files (spec.rename_of meaning files (goal_of_code goal.now) es (target_of_code target.now)) plan) }

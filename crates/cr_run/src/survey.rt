@@ -2,7 +2,7 @@
 ghost use Rattle.std.specs.Prelude.{◌≡◌, ◌≤◌, ◌<◌, ◌++◌, ◌∷◌, ◌*◌, ◌+◌, [], List, ℕ, Option, Some, None, map, take, length, slice_get, IfOk, OnOk, true, false, bytes_eq};
 ghost use Rattle.std.specs.Option.{option_map};
 ghost use Rattle.cr_base.specs.declared.unit.Unit.{Unit as UnitOf};
-ghost use Rattle.cr_world.specs.Outside.{Files, Rose};
+ghost use Rattle.cr_world.specs.Outside.{Files, Rose, OnlyRead};
 ghost use Rattle.cr_small.specs.Seen.{tokens_of, key_of_code};
 ghost use Rattle.cr_lex.specs.Lexing.{lexed};
 ghost use Rattle.cr_small.specs.Keys.{Key};
@@ -218,7 +218,8 @@ impl Survey {
     ) -> Result<(), Refusal<'a>>
         requires named { IsNamed sought.now.old.now (option_map key_of_code sought.now.key) }
         ensures placed { OnOk result (IsPlaced sought.now self.old → IsPlaced sought.now self.new) }
-        ensures reads { ReadsOnly (T.files tree.old) (T.files tree.new) (T.reads tree.old) (T.reads tree.new) (T.replaces tree.old) (T.replaces tree.new) }
+        ensures reads { ReadsOnly (T.files tree.old) (T.files tree.new) (T.reads tree.old) (T.reads tree.new) (T.replaces tree.old) (T.replaces tree.new) (T.replacings tree.old) (T.replacings tree.new) }
+        ensures asked { OnlyRead (λ path. IsMain units.now path) (T.readings tree.old) (T.readings tree.new) }
         ensures surveyed { (meaning : Meaning) (files : Files) → IsMeaning meaning → T.files tree.old ≡ Some files
             → Holds meaning files (wanted_of sought.now) [] self.old → Surveys meaning files (wanted_of sought.now) units.now self.new result }
         ensures cause { HasReadCause (λ path. IsMain units.now path × Rose (T.reads tree.old path) (T.reads tree.new path)) result }
@@ -241,7 +242,8 @@ impl Survey {
     ) -> Result<(), Refusal<'a>>
         requires named { IsNamed sought.now.old.now (option_map key_of_code sought.now.key) }
         ensures placed { OnOk result (IsPlaced sought.now self.old → IsPlaced sought.now self.new) }
-        ensures reads { ReadsOnly (T.files tree.old) (T.files tree.new) (T.reads tree.old) (T.reads tree.new) (T.replaces tree.old) (T.replaces tree.new) }
+        ensures reads { ReadsOnly (T.files tree.old) (T.files tree.new) (T.reads tree.old) (T.reads tree.new) (T.replaces tree.old) (T.replaces tree.new) (T.replacings tree.old) (T.replacings tree.new) }
+        ensures asked { OnlyRead (λ path. IsMain batch.now path) (T.readings tree.old) (T.readings tree.new) }
         ensures met { (meaning : Meaning) (files : Files) (done : List UnitOf) → IsMeaning meaning → T.files tree.old ≡ Some files
             → Holds meaning files (wanted_of sought.now) done self.old → Met meaning files (wanted_of sought.now) (done ++ batch.now) self.new result }
         ensures cause { HasReadCause (λ path. IsMain batch.now path × Rose (T.reads tree.old path) (T.reads tree.new path)) result }
@@ -262,7 +264,8 @@ impl Survey {
     ) -> Result<(), Refusal<'a>>
         requires named { IsNamed sought.now.old.now (option_map key_of_code sought.now.key) }
         ensures placed { OnOk result (IsPlaced sought.now self.old → IsPlaced sought.now self.new) }
-        ensures reads { ReadsOnly (T.files tree.old) (T.files tree.new) (T.reads tree.old) (T.reads tree.new) (T.replaces tree.old) (T.replaces tree.new) }
+        ensures reads { ReadsOnly (T.files tree.old) (T.files tree.new) (T.reads tree.old) (T.reads tree.new) (T.replaces tree.old) (T.replaces tree.new) (T.replacings tree.old) (T.replacings tree.new) }
+        ensures asked { OnlyRead (λ path. path ≡ unit.now.main) (T.readings tree.old) (T.readings tree.new) }
         ensures met { (meaning : Meaning) (files : Files) (done : List UnitOf) → IsMeaning meaning → T.files tree.old ≡ Some files
             → Holds meaning files (wanted_of sought.now) done self.old → Met meaning files (wanted_of sought.now) (done ++ unit.now ∷ []) self.new result }
         ensures cause { HasReadCause (λ path. (path ≡ unit.now.main) × Rose (T.reads tree.old path) (T.reads tree.new path)) result }
@@ -286,7 +289,8 @@ impl Survey {
     ) -> Result<(), Refusal<'a>>
         requires named { IsNamed sought.now.old.now (option_map key_of_code sought.now.key) }
         ensures placed { OnOk result (IsPlaced sought.now self.old → IsPlaced sought.now self.new) }
-        ensures reads { ReadsOnly (T.files tree.old) (T.files tree.new) (T.reads tree.old) (T.reads tree.new) (T.replaces tree.old) (T.replaces tree.new) }
+        ensures reads { ReadsOnly (T.files tree.old) (T.files tree.new) (T.reads tree.old) (T.reads tree.new) (T.replaces tree.old) (T.replaces tree.new) (T.replacings tree.old) (T.replacings tree.new) }
+        ensures asked { OnlyRead (λ p. p ≡ path.now) (T.readings tree.old) (T.readings tree.new) }
         ensures added { (meaning : Meaning) (files : Files) → IsMeaning meaning → T.files tree.old ≡ Some files → bytes_eq sought.now.source.now path.now ≡ false
             → Added meaning (wanted_of sought.now) path.now (files path.now) self.old self.new result }
         ensures cause { HasReadCause (λ p. (p ≡ path.now) × Rose (T.reads tree.old p) (T.reads tree.new p)) result }

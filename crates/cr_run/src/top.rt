@@ -1,13 +1,14 @@
 //! The top call.
-ghost use Rattle.std.specs.Prelude.{◌≡◌, ◌≢◌, ◌⊎◌, ◌++◌, List, ℕ, map, string_bytes, Some, Ok, Err, codes, decimal};
-ghost use Rattle.cr_world.specs.Outside.{Files, Rose};
+ghost use Rattle.std.specs.Prelude.{◌≡◌, ◌≢◌, ◌⊎◌, ◌++◌, List, ℕ, map, take, string_bytes, Some, Ok, Err, codes, decimal};
+ghost use Rattle.cr_world.specs.Outside.{Files, Rose, OnlyRead};
+ghost use Rattle.cr_run.specs.Goal.{IsInPlace};
 ghost use Rattle.cr_run.specs.Renames.{Rename};
 ghost use Rattle.cr_run.specs.Outcome.{IsOutcome, Outcome};
 ghost use Rattle.cr_run.specs.Report.{report_of};
 ghost use Rattle.cr_run.specs.Keeps.{Keeps};
-ghost use Rattle.cr_run.specs.Reading.{MayRead};
+ghost use Rattle.cr_run.specs.Reading.{MayRead, ReadsByItself};
 ghost use Rattle.cr_run.specs.Told.{Gained, GainedFront, Tells, line_of};
-ghost use Rattle.cr_run.specs.Written.{IsHalfWritten, files_after, fault_text};
+ghost use Rattle.cr_run.specs.Written.{IsHalfWritten, files_after, replaced_by, fault_text};
 ghost use Rattle.cr_run.specs.Top.{Holds, IsDecided, NoneRose, decided_status};
 
 use crate::laws::{an_accepted_rename_keeps_the_meaning, the_outcome_is_one};
@@ -61,11 +62,11 @@ pub fn crename_serial<T: Tree, O: Sink, E: Sink>(
         × Tells (E.bytes err.old) (E.bytes err.new) (E.faults err.old) (E.faults err.new) (line_of (codes "read fault: " ++ path))
         × ((files : Files) → T.files tree.old ≡ Some files → MayRead (map string_bytes words.now) files path) }
 
-    // 16: files are to be written, and a replace of the path that the line names failed in this call. The first n of
+    // 16: the words ask that files are written, and a replace of the path that the line names failed in this call. The first n of
     // the files that change are new, this one is old or new, all others are old, and nothing is printed.
     ensures write_fault { result ≡ 16 → (path : List ℕ) × (n : ℕ) × Rose (T.replaces tree.old path) (T.replaces tree.new path)
         × Tells (E.bytes err.old) (E.bytes err.new) (E.faults err.old) (E.faults err.new) (line_of (codes "write fault: " ++ fault_text path n))
-        × (out.new ≡ out.old)
+        × IsInPlace (map string_bytes words.now) × (out.new ≡ out.old)
         × ((files : Files) → T.files tree.old ≡ Some files
         → (r : Rename) × IsOutcome (map string_bytes words.now) files (Ok r)
         × (told : Files) × (T.files tree.new ≡ Some told) × IsHalfWritten n path r files told) }
@@ -82,8 +83,23 @@ pub fn crename_serial<T: Tree, O: Sink, E: Sink>(
         × Holds (T.files tree.new) (files_after r files)
         × GainedFront (O.bytes out.old) (O.bytes out.new) (report_of files r)) }
 
-    // Every answer but 0, 16 and 18 leaves the files and the output as they were.
-    ensures unchanged { (result ≡ 0 → ⊥) → (result ≡ 16 → ⊥) → (result ≡ 18 → ⊥) → (T.files tree.new ≡ T.files tree.old) × (out.new ≡ out.old) }
+    // Whatever is answered, only the database and the source that the words name were read, and main files of units of the
+    // database, as it was read; where the tree tells its files, of the database that stands there.
+    ensures reads_only { ReadsByItself (map string_bytes words.now) (T.readings tree.old) (T.readings tree.new) }
+    ensures reads_told { (files : Files) → T.files tree.old ≡ Some files
+        → OnlyRead (MayRead (map string_bytes words.now) files) (T.readings tree.old) (T.readings tree.new) }
+
+    // Whatever is answered, nothing was replaced without `-i`,
+    ensures replaces_none { (IsInPlace (map string_bytes words.now) → ⊥) → T.replacings tree.new ≡ T.replacings tree.old }
+
+    // and with it only first ones of the files that the decided rename changes, in their order.
+    ensures replaces_only { (files : Files) → T.files tree.old ≡ Some files
+        → (r : Rename) → IsOutcome (map string_bytes words.now) files (Ok r)
+        → (n : ℕ) × (T.replacings tree.new ≡ T.replacings tree.old ++ take n (replaced_by r)) }
+
+    // Every answer but 0, 16 and 18 leaves the files and the output as they were, and asked for no replace.
+    ensures unchanged { (result ≡ 0 → ⊥) → (result ≡ 16 → ⊥) → (result ≡ 18 → ⊥) → (T.files tree.new ≡ T.files tree.old)
+        × (T.replacings tree.new ≡ T.replacings tree.old) × (out.new ≡ out.old) }
 
     // No other status is answered.
     ensures statuses { IsDecided result ⊎ (result ≡ 0) ⊎ (result ≡ 4) ⊎ (result ≡ 16) ⊎ (result ≡ 17) ⊎ (result ≡ 18) }

@@ -1,8 +1,8 @@
 //! The files that are written.
-ghost use Rattle.std.specs.Prelude.{◌≡◌, ◌++◌, IfOk, IfSome, IfNone};
+ghost use Rattle.std.specs.Prelude.{◌≡◌, ◌++◌, ℕ, take, IfOk, IfSome, IfNone};
 ghost use Rattle.cr_world.specs.Outside.{Rose, NoneFell, AllStay};
 ghost use Rattle.cr_run.specs.Written as spec;
-ghost use Rattle.cr_run.specs.Writing.{writes_from, AllReplaced, Stops};
+ghost use Rattle.cr_run.specs.Writing.{writes_from, paths_of, AllReplaced, Stops};
 
 use crate::edits::FileEdit;
 use crate::number::push_number;
@@ -46,6 +46,8 @@ pub fn replace_all<'a, T: Tree>(tree: &mut T, writes: &'a [Write]) -> Option<&'a
     ensures stopped { IfSome result (λ w. Stops writes.now w.now (T.files tree.old) (T.files tree.new)) }
     ensures counts { NoneFell (T.replaces tree.old) (T.replaces tree.new) }
     ensures reads { AllStay (T.reads tree.old) (T.reads tree.new) }
+    ensures asked { (n : ℕ) × (T.replacings tree.new ≡ T.replacings tree.old ++ take n (paths_of writes.now)) }
+    ensures readings { T.readings tree.new ≡ T.readings tree.old }
     ensures failed { IfSome result (λ w. Rose (T.replaces tree.old w.now.edit.path) (T.replaces tree.new w.now.edit.path)) }
 {
     for write in writes {

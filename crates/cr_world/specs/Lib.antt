@@ -1,4 +1,5 @@
 pub mod Outside
+pub mod Histories
 pub mod Calls
 pub mod Memory
 pub mod Disks

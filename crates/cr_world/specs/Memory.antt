@@ -5,6 +5,7 @@ use Rattle.std.specs.Cmp.Lexicographic.{slice_cmp}
 use Rattle.std.specs.BTreeMap.{BTreeMap, get}
 use Rattle.cr_world.specs.Outside.{Files, OthersStay}
 use Rattle.cr_world.specs.Calls.{CallLog, log_of, after_call, after_fault}
+use Rattle.cr_world.specs.declared.history.History.{History}
 use Rattle.cr_world.specs.declared.outside.ReadEnd.{ReadEnd}
 use Rattle.cr_world.specs.declared.outside.ReadEnd.TheVariants as read
 use Rattle.cr_world.specs.declared.outside.DoneEnd.{DoneEnd}
@@ -27,6 +28,10 @@ read_log tree = log_of tree.reads
 -- the calls of `replace`
 abbrev pub replace_log : MemTree → CallLog
 replace_log tree = log_of tree.replaces
+
+-- what was asked for
+abbrev pub tree_history : MemTree → History
+tree_history tree = tree.history
 
 -- the bytes that were written
 abbrev pub sink_bytes : MemSink → List ℕ

@@ -1,5 +1,6 @@
 -- Our own rule for the outside: what a tree of files and a sink of bytes mean, and when a call may fail.
 use Rattle.std.specs.Prelude.{ℕ, ◌+◌, ◌-◌, ◌^◌, ◌<◌, ◌≤◌, ◌≡◌, ◌≢◌, ◌⊎◌, min, List, [], ◌++◌, length, take, Option, Some, None}
+use Rattle.std.specs.List.{All}
 use Rattle.cr_world.specs.declared.outside.ReadEnd.{ReadEnd}
 use Rattle.cr_world.specs.declared.outside.ReadEnd.TheVariants as read
 use Rattle.cr_world.specs.declared.outside.DoneEnd.{DoneEnd}
@@ -12,6 +13,16 @@ Files = List ℕ → Option (List ℕ)
 -- a number for each path
 abbrev pub Counts : Type 0
 Counts = List ℕ → ℕ
+
+-- a call of `read`: its path, and the bytes that it handed over
+abbrev pub Reading : Type 0
+Reading = List ℕ × List ℕ
+
+-- The reads went on by some, of paths of which this holds.
+pub record OnlyRead (May : List ℕ → Type 0) (before now : List Reading) : Type 0 where
+  pub more : List Reading
+  pub gained : now ≡ before ++ more
+  pub each : All (λ reading. May reading.0) more
 
 -- A count of faults has risen, or stands at its type's end.
 abbrev pub Rose : ℕ → ℕ → Type 0

@@ -4,7 +4,7 @@ ghost use Rattle.cr_world.specs.Outside.{Files, HandsOver, SaysOfFile, ReplaceTe
 ghost use Rattle.cr_world.specs.Disks.{Leaves, Appends, Drafts};
 
 use crate::disk::{Disk, OpenFault};
-use crate::{DoneEnd, ReadEnd, Tree};
+use crate::{DoneEnd, History, ReadEnd, Tree};
 use cr_base::{OutOfMemory, PathText};
 use std::alloc::Global;
 use std::io::Read;
@@ -22,16 +22,18 @@ pub struct DirTree<D: Disk + Drop> {
     alloc: Global,
     reads: u64,
     replaces: u64,
+    history: History,
 }
 
 impl<D: Disk + Drop> DirTree<D> {
-    /// The files of a disk, with no failed call so far.
+    /// The files of a disk, with no call so far.
     pub fn new(alloc: Global, disk: D) -> DirTree<D> {
         DirTree {
             disk,
             alloc,
             reads: 0,
             replaces: 0,
+            history: History::new(),
         }
     }
 
@@ -44,21 +46,29 @@ impl<D: Disk + Drop> DirTree<D> {
 }
 
 impl<D: Disk + Drop> Tree for DirTree<D> {
+    ghost use Rattle.cr_world.specs.Histories.{reads_in, replaces_in};
+
     ghost files = { λ t. D.files t.disk };
 
     ghost reads = { λ t path. t.reads };
 
     ghost replaces = { λ t path. t.replaces };
 
+    ghost readings = { λ t. reads_in t.history };
+
+    ghost replacings = { λ t. replaces_in t.history };
+
     fn read(&mut self, _alloc: Global, path: &PathText, max: usize, into: &mut Vec<u8>) -> ReadEnd {
         let end = read_file(&self.disk, path.bytes(), max, into);
         if matches!(end, ReadEnd::Failed) {
             self.reads = self.reads.saturating_add(1);
         }
+        self.history.add_read(path, into);
         end
     }
 
     fn replace(&mut self, path: &PathText, bytes: &[u8]) -> DoneEnd {
+        self.history.add_replace(path);
         let end = replace_file(&mut self.disk, self.alloc, path.bytes(), bytes);
         if matches!(end, DoneEnd::Failed) {
             self.replaces = self.replaces.saturating_add(1);

@@ -1,11 +1,12 @@
 //! The outside of the program as two traits, a tree of files and a sink of bytes. Each tells, where it
-//! can, what it holds, and always how many of its calls failed. Two stand in memory, for tests, and two
+//! can, what it holds, and always how many of its calls failed and what it was asked for. Two stand in memory, for tests, and two
 //! over the system's files and streams.
 #![tactic(auto)]
 
 mod calls;
 mod dir_tree;
 mod disk;
+mod history;
 mod mem_sink;
 mod mem_tree;
 mod outside;
@@ -16,6 +17,7 @@ mod tests;
 
 pub use dir_tree::DirTree;
 pub use disk::{Disk, OpenFault};
+pub use history::History;
 pub use mem_sink::MemSink;
 pub use mem_tree::MemTree;
 pub use outside::{DoneEnd, ReadEnd, Sink, Tree};

@@ -1,12 +1,12 @@
 //! A tree in memory, whose reads and replaces fail where a test says so.
-ghost use Rattle.std.specs.Prelude.{◌≡◌, ◌↔◌, ◌≤◌, [], Some, OnOk, OnErr, IsTrue};
+ghost use Rattle.std.specs.Prelude.{◌≡◌, ◌↔◌, ◌≤◌, ◌++◌, ◌∷◌, [], Some, OnOk, OnErr, IsTrue};
 ghost use Rattle.std.specs.Option.{option_map};
 ghost use Rattle.cr_world.specs.Calls.{no_calls, with_failing, next_fails};
 ghost use Rattle.cr_world.specs.Outside.{Files, Rose, NoneFell, AllStay, HandsOver, SaysOfFile, ReplaceTells};
 ghost use Rattle.cr_world.specs.Memory.{no_files, files_of, PutIn};
 
 use crate::calls::Calls;
-use crate::{DoneEnd, ReadEnd, Tree};
+use crate::{DoneEnd, History, ReadEnd, Tree};
 use cr_base::{List, OutOfMemory, PathText};
 use std::alloc::Global;
 use std::collections::BTreeMap;
@@ -19,22 +19,27 @@ pub struct MemTree {
     files: BTreeMap<PathText, List<u8>>,
     reads: Calls,
     replaces: Calls,
+    history: History,
 }
 
 impl MemTree {
-    ghost use Rattle.cr_world.specs.Memory.{tree_files, read_log, replace_log};
+    ghost use Rattle.cr_world.specs.Histories.{reads_in, replaces_in};
+    ghost use Rattle.cr_world.specs.Memory.{tree_files, read_log, replace_log, tree_history};
 
     /// A tree without files, none of whose calls is to fail.
     pub fn new(alloc: Global) -> MemTree
         ensures files { tree_files result ≡ no_files }
         ensures reads { read_log result ≡ no_calls }
         ensures replaces { replace_log result ≡ no_calls }
+        ensures readings { reads_in (tree_history result) ≡ [] }
+        ensures replacings { replaces_in (tree_history result) ≡ [] }
     {
         MemTree {
             alloc,
             files: BTreeMap::new(alloc),
             reads: Calls::new(alloc),
             replaces: Calls::new(alloc),
+            history: History::new(),
         }
     }
 
@@ -45,6 +50,7 @@ impl MemTree {
         ensures err { OnErr result (tree_files self.new ≡ tree_files self.old) }
         ensures reads { read_log self.new ≡ read_log self.old }
         ensures replaces { replace_log self.new ≡ replace_log self.old }
+        ensures history { tree_history self.new ≡ tree_history self.old }
     {
         put_file(&mut self.files, path, List::of(bytes))
     }
@@ -63,6 +69,7 @@ impl MemTree {
         ensures err { OnErr result (read_log self.new ≡ read_log self.old) }
         ensures files { tree_files self.new ≡ tree_files self.old }
         ensures replaces { replace_log self.new ≡ replace_log self.old }
+        ensures history { tree_history self.new ≡ tree_history self.old }
     {
         self.reads.fail(n)
     }
@@ -73,13 +80,28 @@ impl MemTree {
         ensures err { OnErr result (replace_log self.new ≡ replace_log self.old) }
         ensures files { tree_files self.new ≡ tree_files self.old }
         ensures reads { read_log self.new ≡ read_log self.old }
+        ensures history { tree_history self.new ≡ tree_history self.old }
     {
         self.replaces.fail(n)
+    }
+
+    // Hands over the bytes at a path, where they are at most `max`.
+    fn hand_over(&self, path: &PathText, max: usize, into: &mut Vec<u8>) -> ReadEnd
+        requires { into.old.items ≡ [] }
+        ensures handed { HandsOver result max into.new.items }
+        ensures file { SaysOfFile result max into.new.items (tree_files self.now path.now) }
+        ensures ended { (result ≡ ReadEnd.Failed) → ⊥ }
+    {
+        match self.get(path) {
+            Some(bytes) => copy_into(bytes, max, into),
+            None => ReadEnd::Absent,
+        }
     }
 }
 
 impl Tree for MemTree {
-    ghost use Rattle.cr_world.specs.Memory.{tree_files, read_log, replace_log, after_read, after_done};
+    ghost use Rattle.cr_world.specs.Histories.{reads_in, replaces_in};
+    ghost use Rattle.cr_world.specs.Memory.{tree_files, read_log, replace_log, tree_history, after_read, after_done};
 
     ghost files = { λ t. Some (tree_files t) };
 
@@ -87,12 +109,18 @@ impl Tree for MemTree {
 
     ghost replaces = { λ t path. (replace_log t).failed };
 
+    ghost readings = { λ t. reads_in (tree_history t) };
+
+    ghost replacings = { λ t. replaces_in (tree_history t) };
+
     fn read(&mut self, _alloc: Global, path: &PathText, max: usize, into: &mut Vec<u8>) -> ReadEnd
         ensures handed { HandsOver result max into.new.items }
         ensures file { (told : Files) → Some (tree_files self.old) ≡ Some told → SaysOfFile result max into.new.items (told path.now) }
         ensures same { Some (tree_files self.new) ≡ Some (tree_files self.old) }
         ensures counts { NoneFell (λ _. (read_log self.old).failed) (λ _. (read_log self.new).failed) }
         ensures replaces { AllStay (λ _. (replace_log self.old).failed) (λ _. (replace_log self.new).failed) }
+        ensures asked { reads_in (tree_history self.new) ≡ reads_in (tree_history self.old) ++ (path.now, into.new.items) ∷ [] }
+        ensures replacings { replaces_in (tree_history self.new) ≡ replaces_in (tree_history self.old) }
         ensures failed { result ≡ ReadEnd.Failed → Rose (read_log self.old).failed (read_log self.new).failed }
 
         // Just the listed reads fail.
@@ -103,18 +131,20 @@ impl Tree for MemTree {
         into.clear();
         if self.reads.next() {
             self.reads.add_fault();
+            self.history.add_read(path, into);
             return ReadEnd::Failed;
         }
-        match self.get(path) {
-            Some(bytes) => copy_into(bytes, max, into),
-            None => ReadEnd::Absent,
-        }
+        let end = self.hand_over(path, max, into);
+        self.history.add_read(path, into);
+        end
     }
 
     fn replace(&mut self, path: &PathText, bytes: &[u8]) -> DoneEnd
         ensures files { ReplaceTells result path.now bytes.now (Some (tree_files self.old)) (Some (tree_files self.new)) }
         ensures counts { NoneFell (λ _. (replace_log self.old).failed) (λ _. (replace_log self.new).failed) }
         ensures reads { AllStay (λ _. (read_log self.old).failed) (λ _. (read_log self.new).failed) }
+        ensures asked { replaces_in (tree_history self.new) ≡ replaces_in (tree_history self.old) ++ path.now ∷ [] }
+        ensures readings { reads_in (tree_history self.new) ≡ reads_in (tree_history self.old) }
         ensures failed { result ≡ DoneEnd.Failed → Rose (replace_log self.old).failed (replace_log self.new).failed }
 
         // The listed replaces fail, and a failed one leaves all files.
@@ -123,6 +153,7 @@ impl Tree for MemTree {
         ensures replaces { replace_log self.new ≡ after_done (replace_log self.old) result }
         ensures others { read_log self.new ≡ read_log self.old }
     {
+        self.history.add_replace(path);
         if self.replaces.next() {
             self.replaces.add_fault();
             return DoneEnd::Failed;

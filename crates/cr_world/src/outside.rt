@@ -1,5 +1,5 @@
 //! The two traits of the outside.
-ghost use Rattle.std.specs.Prelude.{◌≡◌, ◌≤◌, List, ℕ, Option};
+ghost use Rattle.std.specs.Prelude.{◌≡◌, ◌≤◌, ◌++◌, ◌∷◌, [], List, ℕ, Option};
 ghost use Rattle.cr_world.specs.Outside.{Files, Rose, NoneFell, AllStay, HandsOver, SaysOfFile, ReplaceTells, WriteTells};
 
 use cr_base::PathText;
@@ -30,7 +30,7 @@ pub enum DoneEnd {
 }
 
 /// A tree of files. It tells its files, as a map from path to bytes, or nothing of them; and it counts its
-/// failed calls for each path, in counters that stop at their last value.
+/// failed calls for each path, in counters that stop at their last value. What it was asked for it tells always.
 pub trait Tree {
     /// The files, where the tree tells them.
     ghost files: { Self → Option (List ℕ → Option (List ℕ)) };
@@ -41,6 +41,12 @@ pub trait Tree {
     /// How many replaces of each path failed.
     ghost replaces: { Self → List ℕ → ℕ };
 
+    /// The reads so far, in their order, also those that failed: the path of each, and the bytes that it handed over.
+    ghost readings: { Self → List (List ℕ × List ℕ) };
+
+    /// The paths of the replaces so far, in their order, also of those that failed.
+    ghost replacings: { Self → List (List ℕ) };
+
     /// Reads the file at a path into `into`, where it has at most `max` bytes. At every other end `into` is
     /// empty. No file changes, and `Failed` comes only where this path's count of failed reads rose.
     fn read(&mut self, alloc: Global, path: &PathText, max: usize, into: &mut Vec<u8>) -> ReadEnd
@@ -49,6 +55,8 @@ pub trait Tree {
         ensures same { files self.new ≡ files self.old }
         ensures counts { NoneFell (reads self.old) (reads self.new) }
         ensures replaces { AllStay (replaces self.old) (replaces self.new) }
+        ensures asked { readings self.new ≡ readings self.old ++ (path.now, into.new.items) ∷ [] }
+        ensures replacings { replacings self.new ≡ replacings self.old }
         ensures failed { result ≡ ReadEnd.Failed → Rose (reads self.old path.now) (reads self.new path.now) };
 
     /// Puts these bytes at a path. After `Failed` the path holds these bytes or what it held, and its count of
@@ -57,6 +65,8 @@ pub trait Tree {
         ensures files { ReplaceTells result path.now bytes.now (files self.old) (files self.new) }
         ensures counts { NoneFell (replaces self.old) (replaces self.new) }
         ensures reads { AllStay (reads self.old) (reads self.new) }
+        ensures asked { replacings self.new ≡ replacings self.old ++ path.now ∷ [] }
+        ensures readings { readings self.new ≡ readings self.old }
         ensures failed { result ≡ DoneEnd.Failed → Rose (replaces self.old path.now) (replaces self.new path.now) };
 }
 

@@ -5,6 +5,8 @@ use Rattle.cr_run.specs.Outcome.{outcome, of_goal}
 use Rattle.cr_run.specs.Planning.{Plans}
 use Rattle.cr_run.proofs.Decisions.{plans_of, refused_first}
 use Rattle.cr_run.proofs.plan.make_plan.Goals as goal
+use Rattle.cr_run.specs.Seen.{goal_of_code}
+use Rattle.cr_run.proofs.Readings.{told_words}
 
 pub returns-in_err-goal-clause-decided : goal.returns-in_err-goal-clause-decided
 unfolding outcome
@@ -17,3 +19,7 @@ pub returns-clause-decided : goal.returns-clause-decided
 unfolding outcome
 returns-clause-decided g c meaning files is told =
     plans_of files _ _ _ (sym (ap (λ s. s >>= of_goal meaning files) c.in_ok-goal.ensures.goal)) (c.plan_goal.ensures.decided meaning files is told)
+
+pub returns-clause-asked : goal.returns-clause-asked
+returns-clause-asked g c files told =
+    told_words (map string_bytes c.args.words.now) (goal_of_code c.in_ok-goal.goal) files c.in_ok-goal.ensures.goal _ _ (c.plan_goal.ensures.asked files told)

@@ -2,12 +2,11 @@ use Rattle.std.proofs.Common.{rules, ◌≡◌, ◌∙◌, ap, sym, length, map,
 use Rattle.std.proofs.lemmas.List.{length-map}
 use Rattle.cr_small.specs.Seen.{target_of_code, key_of_code}
 use Rattle.cr_run.specs.Seen.{goal_of_code}
-use Rattle.cr_run.specs.Writing.{AreWrites}
 use Rattle.cr_run.specs.Planning.{writes_if}
 use Rattle.cr_run.specs.Table.{RisesIn}
 use Rattle.cr_run.specs.Held.{StandsAt, wanted_for}
 use Rattle.cr_run.specs.Editing.{AllRise, edits_of}
-use Rattle.cr_run.proofs.Plans.{plan_is, told_same, writes_are}
+use Rattle.cr_run.proofs.Plans.{plan_is, told_same}
 use Rattle.cr_run.proofs.Tables.{all_placed}
 use Rattle.cr_run.proofs.plan.planned.Goals as goal
 
@@ -32,4 +31,4 @@ returns-clause-plan c meaning files es parted h =
     (c.in_ok-writes.ensures ∙ ap (writes_if c.args.goal.now.in_place) edits)
 
 pub returns-clause-writes : goal.returns-clause-writes
-returns-clause-writes c = subst AreWrites (sym c.in_ok-writes.ensures) (writes_are c.args.goal.now.in_place _)
+returns-clause-writes c = (c.in_ok-edits.edits.items, c.in_ok-writes.ensures)

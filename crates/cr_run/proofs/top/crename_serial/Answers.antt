@@ -8,7 +8,9 @@ use Rattle.cr_run.specs.Writing.{written, IsStopped}
 use Rattle.cr_run.specs.Top.{IsDecided, decided_status}
 use Rattle.cr_run.specs.declared.plan.Plan.{Plan}
 use Rattle.cr_run.proofs.TopLemmas.{decided_at, told_read, told_memory, complete_err, written_if, half_written, fault_of}
+use Rattle.cr_run.proofs.Writes.{none_asked}
 use Rattle.cr_run.proofs.top.crename_serial.Goals as goal
+use Rattle.cr_run.proofs.TopLemmas.{asked_first, writes_for, writes_none, in_place}
 
 pub returns-in-Err-clause-refused : goal.returns-in-Err-clause-refused
 returns-in-Err-clause-refused g c d files told =
@@ -39,11 +41,12 @@ pub returns-in-Some-clause-write_fault : goal.returns-in-Some-clause-write_fault
 returns-in-Some-clause-write_fault g c e =
     let w = c.in-Some.write.now in
     let stop = c.in-Some.ensures.stopped in
-    let fault = c.bytes.ensures ∙ fault_of c.in-Ok.plan.writes.items w stop.0 c.in-Ok.ensures.writes (ap (λ l. slice_get l stop.0) (sym c.deref.ensures.value) ∙ stop.1) in (
+    let fault = c.bytes.ensures ∙ fault_of c.in-Ok.plan.writes.items w stop.0 (writes_for (map string_bytes c.args.words.now) c.in-Ok.plan.writes.items c.in-Ok.ensures.writes) (ap (λ l. slice_get l stop.0) (sym c.deref.ensures.value) ∙ stop.1) in (
       w.edit.path,
       stop.0,
       subst (λ n. Rose n (g.T.Tree.replaces c.replace_all.new.tree w.edit.path)) (c.in-Ok.ensures.reads.stay w.edit.path) c.in-Some.ensures.failed,
       subst (λ t. Tells (g.E.Sink.bytes c.args.err.now) (g.E.Sink.bytes c.tell.new.err) (g.E.Sink.faults c.args.err.now) (g.E.Sink.faults c.tell.new.err) (line_of (codes "write fault: " ++ t))) fault c.tell.ensures,
+      in_place (map string_bytes c.args.words.now) c.in-Ok.plan.writes.items w stop.0 c.in-Ok.ensures.writes (ap (λ l. slice_get l stop.0) (sym c.deref.ensures.value) ∙ stop.1),
       refl,
       λ files told.
           let m = c.every_text_is_decided.ensures in
@@ -91,3 +94,45 @@ returns-clause-output_fault g c e = (
             (gained.2.0, gained.1 ∙ ap (λ (x : List ℕ). Some x) (gained.2.1 ∙ ap (λ t. bytes ++ take gained.2.0 t) (c.deref-2.ensures.value ∙ plan.2.report))),
       ),
 )
+
+pub returns-in-Some-clause-replaces_only : goal.returns-in-Some-clause-replaces_only
+returns-in-Some-clause-replaces_only g c files told r is =
+    let m = c.every_text_is_decided.ensures in
+    let plan = c.in-Ok.ensures.decided m.0 files m.1 told in
+    let one : Ok plan.0 ≡ Ok r = c.the_outcome_is_one.ensures (map string_bytes c.args.words.now) files (Ok plan.0) (Ok r) (m.0, m.1, sym plan.1) is in
+    let same : plan.0 ≡ r = cc in
+    let asked = c.replace_all.ensures.asked in
+    (asked.0, asked_first files plan.0 plan.2.edits plan.2.are plan.2.each plan.2.apart r same c.deref.result.now asked.0 _ _ _ (c.deref.ensures.value ∙ plan.2.writes) c.in-Ok.ensures.reads.none asked.1)
+
+pub returns-in-Done-clause-replaces_only : goal.returns-in-Done-clause-replaces_only
+returns-in-Done-clause-replaces_only g c files told r is =
+    let m = c.every_text_is_decided.ensures in
+    let plan = c.in-Ok.ensures.decided m.0 files m.1 told in
+    let one : Ok plan.0 ≡ Ok r = c.the_outcome_is_one.ensures (map string_bytes c.args.words.now) files (Ok plan.0) (Ok r) (m.0, m.1, sym plan.1) is in
+    let same : plan.0 ≡ r = cc in
+    let asked = c.replace_all.ensures.asked in
+    (asked.0, asked_first files plan.0 plan.2.edits plan.2.are plan.2.each plan.2.apart r same c.deref.result.now asked.0 _ _ _ (c.deref.ensures.value ∙ plan.2.writes) c.in-Ok.ensures.reads.none asked.1)
+
+pub returns-clause-replaces_only : goal.returns-clause-replaces_only
+returns-clause-replaces_only g c files told r is =
+    let m = c.every_text_is_decided.ensures in
+    let plan = c.in-Ok.ensures.decided m.0 files m.1 told in
+    let one : Ok plan.0 ≡ Ok r = c.the_outcome_is_one.ensures (map string_bytes c.args.words.now) files (Ok plan.0) (Ok r) (m.0, m.1, sym plan.1) is in
+    let same : plan.0 ≡ r = cc in
+    let asked = c.replace_all.ensures.asked in
+    (asked.0, asked_first files plan.0 plan.2.edits plan.2.are plan.2.each plan.2.apart r same c.deref.result.now asked.0 _ _ _ (c.deref.ensures.value ∙ plan.2.writes) c.in-Ok.ensures.reads.none asked.1)
+
+pub returns-in-Some-clause-replaces_none : goal.returns-in-Some-clause-replaces_none
+returns-in-Some-clause-replaces_none g c away =
+    let asked = c.replace_all.ensures.asked in
+    none_asked c.deref.result.now asked.0 _ _ _ (c.deref.ensures.value ∙ writes_none (map string_bytes c.args.words.now) c.in-Ok.plan.writes.items c.in-Ok.ensures.writes away) c.in-Ok.ensures.reads.none asked.1
+
+pub returns-in-Done-clause-replaces_none : goal.returns-in-Done-clause-replaces_none
+returns-in-Done-clause-replaces_none g c away =
+    let asked = c.replace_all.ensures.asked in
+    none_asked c.deref.result.now asked.0 _ _ _ (c.deref.ensures.value ∙ writes_none (map string_bytes c.args.words.now) c.in-Ok.plan.writes.items c.in-Ok.ensures.writes away) c.in-Ok.ensures.reads.none asked.1
+
+pub returns-clause-replaces_none : goal.returns-clause-replaces_none
+returns-clause-replaces_none g c away =
+    let asked = c.replace_all.ensures.asked in
+    none_asked c.deref.result.now asked.0 _ _ _ (c.deref.ensures.value ∙ writes_none (map string_bytes c.args.words.now) c.in-Ok.plan.writes.items c.in-Ok.ensures.writes away) c.in-Ok.ensures.reads.none asked.1

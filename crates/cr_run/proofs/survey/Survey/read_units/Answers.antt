@@ -1,10 +1,11 @@
 use Rattle.std.proofs.Common.{rules, ◌≡◌, ◌∙◌, sym, ap, subst, arith, take, drop, None, ◌++◌, ◌*◌, ◌+◌, ◌<◌, suc}
 use Rattle.std.specs.Prelude.{Err}
 use Rattle.std.proofs.lemmas.List.{take_all}
-use Rattle.cr_run.specs.Units.{mains}
+use Rattle.cr_run.specs.Units.{mains, IsMain}
 use Rattle.cr_run.specs.Survey.{batches, refusal_below, refusal_of_batch, refusal_of_units, first_unbuilt}
 use Rattle.cr_run.specs.Reading.{HasReadCause}
 use Rattle.cr_run.specs.Held.{wanted_of, Holds, Met, AllMet, Settled, Surveys}
+use Rattle.cr_world.proofs.Histories.{read_both, read_wider}
 use Rattle.cr_run.proofs.Causes.{reads_both, cause_more, rose_earlier}
 use Rattle.cr_run.proofs.Batches.{batch_refuses, unit_refuses, none_yet, all_met, up_to, batch_is, batch_starts, batches_end, main_in_slice}
 use Rattle.cr_run.proofs.survey.Survey.read_units.Goals as goal
@@ -38,7 +39,7 @@ returns-in_err-settle-clause-surveyed g c meaning files is told h =
 
 pub loop-n-preserved : goal.loop-n-preserved
 loop-n-preserved g c = (
-  reads_both _ _ _ _ _ _ _ _ _ c.loop-n.invariant.0 c.in_ok-read_batch.ensures.reads,
+  reads_both _ _ _ _ _ _ _ _ _ _ _ _ c.loop-n.invariant.0 c.in_ok-read_batch.ensures.reads,
   λ meaning files is told h.
       let wanted = wanted_of c.args.sought.now in
       let inv = c.loop-n.invariant.1 meaning files is told h in
@@ -55,6 +56,7 @@ loop-n-preserved g c = (
         subst (λ k. refusal_below (refusal_of_batch meaning files wanted.source wanted.new c.args.units.now) k ≡ None) one (none_yet meaning files wanted c.args.units.now c.loop-n.n c.read_batch.new.self inv.1 met none),
       ),
   λ all. c.in_ok-read_batch.ensures.placed (c.loop-n.invariant.2 all),
+  read_both (IsMain c.args.units.now) _ _ _ c.loop-n.invariant.3 (read_wider _ (IsMain c.args.units.now) (λ path h. main_in_slice _ _ c.args.units.now path h) _ _ c.in_ok-read_batch.ensures.asked),
 )
 
 pub returns-clause-surveyed : goal.returns-clause-surveyed
@@ -72,3 +74,11 @@ returns-in_err-read_batch-clause-cause g c =
     let e : c.from_residual.result ≡ Err c.in_err-read_batch.field-0.0 = search rules in
     subst (HasReadCause _) (sym e)
     (cause_more (Unit {0}) (Unit {0}) _ _ c.in_err-read_batch.field-0.0 (λ path h. (main_in_slice _ _ c.args.units.now path h.0, rose_earlier _ _ _ (c.loop-n.invariant.0.later path) h.1)) c.in_err-read_batch.ensures.cause)
+
+pub returns-in_err-read_batch-clause-asked : goal.returns-in_err-read_batch-clause-asked
+returns-in_err-read_batch-clause-asked g c =
+    read_both (IsMain c.args.units.now) _ _ _ c.loop-n.invariant.3 (read_wider _ (IsMain c.args.units.now) (λ path h. main_in_slice _ _ c.args.units.now path h) _ _ c.in_err-read_batch.ensures.asked)
+
+pub returns-in_err-settle-clause-asked : goal.returns-in_err-settle-clause-asked
+returns-in_err-settle-clause-asked g c =
+    read_both (IsMain c.args.units.now) _ _ _ c.loop-n.invariant.3 (read_wider _ (IsMain c.args.units.now) (λ path h. main_in_slice _ _ c.args.units.now path h) _ _ c.in_ok-read_batch.ensures.asked)
