@@ -106,7 +106,13 @@ fn linkage_by(file_scope: bool, is_static: bool, takes_seen: bool, seen: Option<
 }
 
 // A declaration at a token, with its name.
-pub fn declaration(space: Space, kind: Kind, linkage: Linkage, token: u32, name: Name) -> Decl
+pub(crate) fn declaration(
+    space: Space,
+    kind: Kind,
+    linkage: Linkage,
+    token: u32,
+    name: Name,
+) -> Decl
     ensures { result ≡ record { space = space; name = name; token = token; kind = kind; linkage = linkage; note = 0 } }
 {
     Decl {
