@@ -127,7 +127,7 @@ pub(crate) fn declaration(
 
 // A declaration that is made, and what its name denotes here, which is a mention where internal linkage is taken from it.
 #[derive(Clone, Copy)]
-pub struct Making {
+pub(crate) struct Making {
     pub decl: Decl,
     pub takes: bool,
     pub denoted: Option<usize>,
