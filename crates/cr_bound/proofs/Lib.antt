@@ -5,3 +5,4 @@ pub mod Naming
 pub mod Reading
 pub mod Scopes
 pub mod Tagging
+pub mod Typenames

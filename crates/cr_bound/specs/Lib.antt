@@ -7,5 +7,6 @@ pub mod Mentions
 pub mod Pending
 pub mod Saving
 pub mod Scoping
+pub mod Specifying
 pub mod Tags
 pub mod Words

@@ -24,7 +24,7 @@ use std::alloc::Global;
 // Types that need no specifiers: void, an arithmetic type, what a generic selection is whose results differ, and what the
 // compiler supplies, a function of arithmetic type (our own rule).
 #[derive(Clone, Copy)]
-pub struct Basics {
+pub(crate) struct Basics {
     pub(crate) void: TypeNo,
     pub(crate) arith: TypeNo,
     pub(crate) mixed: TypeNo,
@@ -172,7 +172,8 @@ impl Bound {
         self.pending.parameters = None;
     }
 
-    // A list of words ends (the end of a node of specifiers that isn't empty).
+    /// A list of words ends (the end of a node of specifiers that isn't empty). A list that isn't permitted is `refused`
+    /// when the next token or action comes (C11 6.7.2p2).
     pub fn end_words(&mut self)
         ensures ok { Moves self.old words_ended self.new }
         ensures typed { StaysTyped self.old self.new }

@@ -106,7 +106,13 @@ fn linkage_by(file_scope: bool, is_static: bool, takes_seen: bool, seen: Option<
 }
 
 // A declaration at a token, with its name.
-pub fn declaration(space: Space, kind: Kind, linkage: Linkage, token: u32, name: Name) -> Decl
+pub(crate) fn declaration(
+    space: Space,
+    kind: Kind,
+    linkage: Linkage,
+    token: u32,
+    name: Name,
+) -> Decl
     ensures { result ≡ record { space = space; name = name; token = token; kind = kind; linkage = linkage; note = 0 } }
 {
     Decl {
@@ -121,7 +127,7 @@ pub fn declaration(space: Space, kind: Kind, linkage: Linkage, token: u32, name:
 
 // A declaration that is made, and what its name denotes here, which is a mention where internal linkage is taken from it.
 #[derive(Clone, Copy)]
-pub struct Making {
+pub(crate) struct Making {
     pub decl: Decl,
     pub takes: bool,
     pub denoted: Option<usize>,

@@ -10,9 +10,11 @@ mod pending;
 mod place;
 mod saved;
 mod scoping;
+mod specifying;
 mod tags;
 mod words;
 
 pub use bound::Bound;
 pub use pending::Pending;
 pub use saved::{Saved, saved_stay};
+pub use words::specifier;

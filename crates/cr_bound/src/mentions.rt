@@ -2,23 +2,24 @@
 ghost use Rattle.std.specs.Prelude.{◌≡◌, ◌&&◌, ℕ, Option, IfOk, IfErr, OnOk};
 ghost use Rattle.cr_types.specs.Types.{Table, IsTypeNo, type_at};
 ghost use Rattle.cr_binding.specs.Source.{Source};
-ghost use Rattle.cr_binding.specs.State.{State};
+ghost use Rattle.cr_binding.specs.State.{State, Selects};
+ghost use Rattle.cr_binding.specs.Declaring.{used};
 ghost use Rattle.cr_binding.specs.Expressions.{push, is_value, identifier};
 ghost use Rattle.cr_names.specs.Names.{Refuses};
 ghost use Rattle.cr_bound.specs.Kept.{with_bound, IsTyped};
-ghost use Rattle.cr_bound.specs.Bound.{Leaves, StaysTyped, FailsAny, IsWord};
+ghost use Rattle.cr_bound.specs.Bound.{Leaves, Moves, StaysTyped, FailsAny, IsWord};
 ghost use Rattle.cr_bound.specs.Mentions.{IsMentioned, identifying};
 
 use crate::bound::Bound;
 use crate::words::{is_built_in, is_function_name};
-use cr_base::{IllCause, Kind, Name, Tok};
+use cr_base::{IllCause, Kind, Name, OutOfMemory, Tok};
 use cr_names::BindFault;
 use cr_scope::Space;
 use cr_types::TypeNo;
 
 // What an identifier in an expression is: what the compiler supplies, a declaration with its type, or nothing.
 #[derive(Clone, Copy)]
-pub enum Mentioned {
+pub(crate) enum Mentioned {
     Supplied,
     Denotes(Option<usize>, TypeNo),
     Nothing,
@@ -88,5 +89,14 @@ impl Bound {
             }
             Mentioned::Nothing => Err(BindFault::Ill(IllCause::Unresolved, token)),
         }
+    }
+
+    /// The name of a token selects the member that is declared at another (C11 6.5.2.3, 6.7.9p7).
+    pub fn select(&mut self, token: u32, member: u32) -> Result<(), OutOfMemory>
+        ensures ok { OnOk result (Moves self.old (used (Selects token member)) self.new) }
+        ensures typed { StaysTyped self.old self.new }
+    {
+        self.names.select(token, member)?;
+        Ok(())
     }
 }

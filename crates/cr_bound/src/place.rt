@@ -11,7 +11,7 @@ use cr_types::RecNo;
 // The last token, whether a function's body is read and the names of its `goto`s, the token of a list of words that isn't
 // permitted, the kind of tag that a keyword announced, and the record whose members are read.
 #[derive(Drop)]
-pub struct Place {
+pub(crate) struct Place {
     pub(crate) last: u32,
     pub(crate) in_body: bool,
     pub(crate) jumps: Vec<u32>,
@@ -21,7 +21,7 @@ pub struct Place {
 }
 
 // The kind of a tag.
-pub fn kind_of(keyword: TagKind) -> Kind
+pub(crate) fn kind_of(keyword: TagKind) -> Kind
     ensures { result ≡ kind_by keyword }
 {
     match keyword {

@@ -13,13 +13,13 @@ use cr_grammar::NonTerm;
 
 // What the tokens of a node say: a specifier each, the keyword of a tag, or nothing by themselves.
 #[derive(Clone, Copy)]
-pub enum Reading {
+pub(crate) enum Reading {
     Specifier,
     Keyword,
     Nothing,
 }
 
-pub fn reads(node: NonTerm) -> Reading
+pub(crate) fn reads(node: NonTerm) -> Reading
     ensures { (t : Source) (i : ℕ) (s : State) → read_in node t i s ≡ read_by result t i s }
 {
     match node {
@@ -74,7 +74,8 @@ fn specifier_among(words: &[(&[u8], SpecWord)], text: &[u8]) -> Option<SpecWord>
     None
 }
 
-// The specifier of a spelling, if it is one.
+/// The specifier of a spelling, if it is one (C11 6.7.1, 6.7.2). Words in double underscores mean the keywords inside them:
+/// our own rule.
 pub fn specifier(text: &[u8]) -> Option<SpecWord>
     ensures { result ≡ lookup (bytes_eq text.now) specifier_words }
 {
@@ -82,7 +83,7 @@ pub fn specifier(text: &[u8]) -> Option<SpecWord>
 }
 
 // Whether a specifier names a type by itself.
-pub fn is_basic(word: SpecWord) -> bool
+pub(crate) fn is_basic(word: SpecWord) -> bool
     ensures { result ≡ is_basic word }
 {
     matches!(
@@ -103,14 +104,14 @@ pub fn is_basic(word: SpecWord) -> bool
 }
 
 // `__func__`, and what compilers take for it (C11 6.4.2.2).
-pub fn is_function_name(text: &[u8]) -> bool
+pub(crate) fn is_function_name(text: &[u8]) -> bool
     ensures { result ≡ is_function_name text.now }
 {
     text == b"__func__".as_slice() || text == b"__FUNCTION__".as_slice()
 }
 
 // What the compiler supplies when it is called without a declaration (our own rule).
-pub fn is_built_in(text: &[u8]) -> bool
+pub(crate) fn is_built_in(text: &[u8]) -> bool
     ensures { result ≡ is_built_in text.now }
 {
     text.starts_with(b"__builtin_")

@@ -154,6 +154,15 @@ impl Operands {
         self.put(ty, top)
     }
 
+    /// The last operand is gone, where there is one.
+    pub fn drop_last(&mut self)
+        ensures ok { (t : Table) → Does t self.old (changing (drop 1)) t self.new }
+        ensures grows { (t : Table) → IsHeld t self.old → Grows t self.old t self.new }
+    {
+        let mark = self.below();
+        self.restore(mark);
+    }
+
     /// A constant or a string literal, by the kind of its token, is an operand (C11 6.4.4, 6.4.5).
     pub fn push_value(&mut self, kind: TokKind) -> Result<(), OutOfMemory>
         ensures ok { OnOk result ((t : Table) (source : Source) (i : ℕ)

@@ -11,7 +11,7 @@ ghost use Rattle.cr_binding.specs.Declaring.{failed};
 ghost use Rattle.cr_binding.specs.RecordMembers.{select, end_record};
 ghost use Rattle.cr_binding.specs.Tags.{record_of as number_of_record, is_record_kind, is_union_kind, with_record, new_type, completing};
 ghost use Rattle.cr_records.specs.Kept.{RecordTable, no_records, IsKept, IsOf, is_ended, Writes, selector_for, spelling};
-ghost use Rattle.cr_records.specs.Records.{with_records, members_by, member_of, AreSpelled, IsSelected, IsNamed, Always, Does, KeepsSpelling, Repeats, Refuses, adding, splicing, recorded, cause_of};
+ghost use Rattle.cr_records.specs.Records.{with_records, members_by, member_of, AreSpelled, IsSelected, IsNamed, Always, Does, KeepsSpelling, Repeats, Refuses, adding, splicing, record_of as seen_record, recorded, cause_of};
 
 use crate::fault::RecordFault;
 use crate::rows::{Member, RecordRow, Selected, Selector};
@@ -398,6 +398,15 @@ impl Records {
             }
             Err(fault) => Err(cause(fault)),
         }
+    }
+
+    /// The structures and unions in the order in which they are met.
+    pub fn rows(&self) -> &[RecordRow]
+        ensures rows { result.now ≡ self.now.records }
+        ensures seen { (t : Table) (s : State)
+            → (with_records t self.now s).records ≡ map seen_record result.now }
+    {
+        &self.records
     }
 
     /// How many names select in records: those of anonymous records stand in each record that has them.
