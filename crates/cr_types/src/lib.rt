@@ -19,6 +19,15 @@ pub struct TypeNo(usize);
 #[derive(Clone, Copy, Debug, PartialEq, Eq, Hash)]
 pub struct RecNo(usize);
 
+impl RecNo {
+    /// How many structures and unions had a number before it in its `Types`.
+    pub fn number(self) -> usize
+        ensures { result ≡ self.0 }
+    {
+        self.0
+    }
+}
+
 /// A type (C11 6.2.5), as far as the members of records need it.
 #[derive(Clone, Copy, Debug, PartialEq, Eq, Hash)]
 pub enum Ty {
