@@ -1,0 +1,6 @@
+mod Lists
+mod Unique
+mod Tokens
+mod Keeping
+mod Acting
+mod Walking
