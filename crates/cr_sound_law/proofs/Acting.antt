@@ -1,5 +1,5 @@
 -- Tokens and actions keep what is bound sound.
-use Rattle.std.specs.Prelude.{◌≡◌, ◌⊎◌, ℕ, ◌+◌, ◌<◌, ◌≤◌, Bool, true, false, not, ◌&&◌, ◌==◌, if◌then◌else◌, eqb, Option, Some, None, is_some, Result, Ok, Err, List, [], ◌∷◌, ◌++◌, length, map, slice_get, Contains}
+use Rattle.std.specs.Prelude.{◌≡◌, ℕ, ◌+◌, ◌<◌, Bool, true, false, not, ◌&&◌, ◌==◌, if◌then◌else◌, eqb, Option, Some, None, is_some, Result, Ok, Err, List, [], ◌∷◌, ◌++◌, length, map, Contains}
 use Rattle.std.specs.List.{list_any, find}
 use Rattle.std.proofs.Common.{refl, sym, ◌∙◌, ap, subst, arith}
 use Rattle.cr_base.specs.declared.Kind.{Kind}
@@ -18,7 +18,7 @@ use Rattle.cr_scope.specs.Declarations.{same_space, same_name}
 use Rattle.cr_scope.specs.Linkage.{is_file_scope, linkage_by}
 use Rattle.cr_scope.specs.Meaning.{LookupMeans}
 use Rattle.cr_scope.specs.Redeclaration.{same_path, clashes, repeats}
-use Rattle.cr_types.specs.Types.{CType, Void, Arith, Mixed, Ptr, Rec}
+use Rattle.cr_types.specs.Types.{CType, Void, Arith, Ptr, Rec}
 use Rattle.cr_decl.specs.declared.SpecWord.{SpecWord}
 use Rattle.cr_decl.specs.declared.SpecWord.TheVariants as w
 use Rattle.cr_decl.specs.Specifiers.{may_follow}
@@ -27,19 +27,19 @@ use Rattle.cr_typing.specs.ExpressionTypes.{decayed}
 use Rattle.cr_binding.specs.Source.{Source, name_at, text_at, is_identifier, is_built_in}
 use Rattle.cr_binding.specs.State.{Declaration, Record, Member, LookedUp, GoesTo, Selects, IsBuiltIn, IsParameter, Target, Whole, Within, State}
 use Rattle.cr_binding.specs.Entities.{entry, is_tag, is_tag_here, token_or}
-use Rattle.cr_binding.specs.Declaring.{failed, used, declare, declaration, declaration_at, meaning_here, linkage_for, linkage_seen, is_internal, has_word, looked_up, is_function_kind, declare_as, kind_of, declare_named, declare_plain, declare_parameter}
+use Rattle.cr_binding.specs.Declaring.{failed, used, declare, declaration, declaration_at, meaning_here, linkage_for, linkage_seen, is_internal, has_word, looked_up, declare_as, kind_of, declare_named, declare_parameter}
 use Rattle.cr_binding.specs.Specifying.{specifier_at, specified, announced, read_in, based, named_type, atomic_type, specified_by, type_specifier, specified_type, declared_type}
-use Rattle.cr_binding.specs.Tags.{is_record_kind, is_union_kind, with_record, new_type, record_of, tag_here, declare_tag, tag_again, tag_alone, filling, completing, tag_definition, untagged, used_tag}
+use Rattle.cr_binding.specs.Tags.{is_record_kind, is_union_kind, with_record, new_type, record_of, tag_here, declare_tag, tag_again, filling, completing, tag_definition, untagged, used_tag}
 use Rattle.cr_binding.specs.RecordMembers.{is_named, members_of, is_complete, or_no_member, member_in, selected, selected_through, least_token, repeated, select, write_unless, write, named_member, add_member, brought_in, add_anonymous, splice, end_record}
 use Rattle.cr_binding.specs.Expressions.{operand, is_function_name, is_value, built_in, denoting, identifier, selecting, is_arrow}
 use Rattle.cr_binding.specs.Initialising.{dotted, designating, designator, initialiser}
 use Rattle.cr_binding.specs.Scoping.{entered_in, body_within, unless_failed, jump_to, all_jumps, body_ended}
-use Rattle.cr_binding.specs.Actions.{passed, acted}
-use Rattle.cr_sound_law.specs.Sound.{IsToken, IsSound}
+use Rattle.cr_binding.specs.Actions.{acted}
+use Rattle.cr_sound_law.specs.Sound.{IsToken}
 use Rattle.cr_sound_law.proofs.Lists.{in_tail, only_one, all_and, nothing_in, longer, longer_by_one, passed_of, found_there, and_both}
 use Rattle.cr_sound_law.proofs.Unique.{Apart, brought_from, brought_to, brought_apart, no_least, written_apart}
 use Rattle.cr_sound_law.proofs.Tokens.{is_anon}
-use Rattle.cr_sound_law.proofs.Keeping.{kept, IfToken, IfRecord, IsTagOf, IsMemberOf, Sound, if_more, Stays, if_stays, used_stays, added_stays, declare_stays, recorded_stays, membered_stays, hidden_stays, jumping_stays, placed_stays, Means, looked_stays, means_here}
+use Rattle.cr_sound_law.proofs.Keeping.{kept, IfToken, IfRecord, IsMemberOf, Sound, Stays, if_stays, used_stays, added_stays, declare_stays, recorded_stays, membered_stays, hidden_stays, jumping_stays, placed_stays, Means, looked_stays, means_here}
 
 -- ---- linkage
 
@@ -189,7 +189,7 @@ module _ (means : LookupMeans) (t : Source) (i : ℕ) where
   tag_stays k c s own within h = plain_stays space.Tag s.keyword k c s s own (λ e. within) h
 
   -- a tag of the present scope
-  IsTagIn : State → Option Declaration → Type 0
+  abbrev IsTagIn : State → Option Declaration → Type 0
   IsTagIn s o = (d : Declaration) → o ≡ Some d → Contains s.declarations d × (d.space ≡ space.Tag)
 
   tag_found : (k : ℕ) (s : State) → IsTagIn s (tag_here t k s)
@@ -369,8 +369,8 @@ module _ (means : LookupMeans) (t : Source) (i : ℕ) where
   -- ---- expressions, initialisers and scopes
 
   denoting_stays : (called : Bool) (o : Option ℕ) (k : ℕ) (s : State) → IsToken t k → Means t space.Ordinary k s o → Stays t i s (denoting called o (declaration_at s o) t k s)
-  denoting_stays called None k s own m =
-      if_stays t i (called && is_built_in (text_at t k)) s (built_in k s) (failed cause.Unresolved k s) (used_stays t i (IsBuiltIn k) s own) (λ h. h)
+  denoting_stays called None k s own m h =
+      if_stays t i (called && is_built_in (text_at t k)) s (built_in k s) (failed cause.Unresolved k s) (used_stays t i (IsBuiltIn k) s own) (λ h. h) h
   denoting_stays called (Some c) k s own m h = by (declaration_at s (Some c))
     where
       by : (d : Option Declaration) → Sound t i (kept (denoting called (Some c) d t k s))
@@ -397,7 +397,7 @@ module _ (means : LookupMeans) (t : Source) (i : ℕ) where
 
   jump_stays : (o : Option ℕ) (k : ℕ) (s : State) → IsToken t k → Means t space.Label k s o → Stays t i s (jump_to o k s)
   jump_stays None k s own m = λ h. h
-  jump_stays (Some c) k s own m = used_stays t i (GoesTo k c) s (own, m.1, m.2, m.4)
+  jump_stays (Some c) k s own m = used_stays t i (GoesTo k c) s (own, (m.1, m.2, m.4))
 
   jumps_stay : (ks : List ℕ) (s : State) → ((k : ℕ) → Contains ks k → IsToken t k) → Stays t i s (all_jumps t ks s)
   jumps_stay [] s own h = h

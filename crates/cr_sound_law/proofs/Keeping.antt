@@ -1,7 +1,7 @@
 -- What is so of all that is bound so far, and what keeps it so.
-use Rattle.std.specs.Prelude.{◌≡◌, ◌⊎◌, ℕ, ◌+◌, ◌<◌, ◌≤◌, Bool, true, false, not, ◌&&◌, if◌then◌else◌, Option, Some, None, List, [], ◌∷◌, ◌++◌, length, map, MatchOption, slice_get, Contains}
+use Rattle.std.specs.Prelude.{◌≡◌, ℕ, ◌+◌, ◌<◌, ◌≤◌, Bool, true, false, if◌then◌else◌, Option, Some, None, List, [], ◌∷◌, ◌++◌, length, map, MatchOption, Contains}
 use Rattle.std.specs.List.{list_any}
-use Rattle.std.proofs.Common.{refl, sym, ◌∙◌, ap, subst, inl, inr, arith}
+use Rattle.std.proofs.Common.{sym, ◌∙◌, ap, subst, arith}
 use Rattle.std.proofs.lemmas.Option.{slice_get_within}
 use Rattle.cr_base.specs.declared.cause.IllCause.TheVariants as cause
 use Rattle.cr_scope.specs.declared.Space.{Space}
@@ -9,14 +9,13 @@ use Rattle.cr_scope.specs.declared.Space.TheVariants as space
 use Rattle.cr_scope.specs.Declarations.{Entry, is_prefix}
 use Rattle.cr_scope.specs.Meaning.{IsLookup, SeesNone, LookupMeans}
 use Rattle.cr_scope.specs.Redeclaration.{clashes}
-use Rattle.cr_types.specs.Types.{CType}
 use Rattle.cr_binding.specs.Source.{Source, name_at}
 use Rattle.cr_binding.specs.State.{Declaration, Record, Member, Use, LookedUp, GoesTo, Selects, IsBuiltIn, IsParameter, WasAsked, State}
 use Rattle.cr_binding.specs.Entities.{entry}
 use Rattle.cr_binding.specs.Declaring.{failed, used, declare, meaning_here, looked_up}
 use Rattle.cr_binding.specs.Tags.{record_of}
 use Rattle.cr_sound_law.specs.Sound.{IsToken, IsDenoted, IsSound}
-use Rattle.cr_sound_law.proofs.Lists.{all_more, all_and, nothing_in, longer, longer_by_one, left_get, mapped_get}
+use Rattle.cr_sound_law.proofs.Lists.{all_more, all_and, longer, left_get, mapped_get}
 use Rattle.cr_sound_law.proofs.Unique.{Apart}
 
 -- ---- what counts of a state
@@ -92,7 +91,7 @@ sound_more t ds more (LookedUp sp i path before denoted) h =
     let w : length ds ≤ length (ds ++ more) = longer ds more in
     let l : before ≤ length ds = h.1 in
     (h.0, omega (arith, w, l), denoted_more t ds more sp i path before denoted h.2)
-sound_more t ds more (GoesTo i label) h = (h.0, h.1, left_get ds more label h.1 h.2, h.3)
+sound_more t ds more (GoesTo i label) h = (h.0, (h.1.0, left_get ds more label h.1.0 h.1.1, h.1.2))
 sound_more t ds more (Selects i member) h = h
 sound_more t ds more (IsBuiltIn i) h = h
 sound_more t ds more (IsParameter i) h = h

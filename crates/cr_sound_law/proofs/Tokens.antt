@@ -1,5 +1,5 @@
 -- Tokens that are passed, asked or awaited are tokens of the unit.
-use Rattle.std.specs.Prelude.{◌≡◌, ℕ, zero, suc, ◌+◌, ◌<◌, Bool, true, false, cond, not, ◌&&◌, ◌||◌, if◌then◌else◌, List, [], ◌∷◌, length, map}
+use Rattle.std.specs.Prelude.{◌≡◌, ℕ, zero, suc, ◌+◌, ◌<◌, Bool, true, false, cond, not, ◌&&◌, ◌||◌, List, [], ◌∷◌, length, map}
 use Rattle.std.proofs.Common.{refl, sym, ◌∙◌, ap, subst, inl, inr, arith}
 use Rattle.cr_base.specs.declared.token.Tok.{Tok}
 use Rattle.cr_base.specs.declared.token.TokKind.{TokKind}
@@ -87,31 +87,31 @@ module _ (t : Source) (i : ℕ) where
   abbrev here : Terminal
   here = token_at (terminals_of t) i
 
-  abbrev next : Terminal
-  next = token_at (terminals_of t) (i + 1)
+  abbrev behind : Terminal
+  behind = token_at (terminals_of t) (i + 1)
 
-  verdict_asks : (g : Guard) (ahead : ℕ) → verdict g here next ≡ Asks ahead → IsToken t (ask_at i ahead)
+  verdict_asks : (g : Guard) (ahead : ℕ) → verdict g here behind ≡ Asks ahead → IsToken t (ask_at i ahead)
   verdict_asks Else ahead h = cc
   verdict_asks (First x) ahead h =
       let f : (is_name here.kind ≡ true) × (0 ≡ ahead) = fits_asks x here 0 ahead h in
       subst (λ k. IsToken t (ask_at i k)) f.1 (name_token t i f.0)
   verdict_asks (Both x y) ahead h = by (fits x here 0) refl h
     where
-      by : (v : Verdict) → fits x here 0 ≡ v → after_first v (fits y next 1) ≡ Asks ahead → IsToken t (ask_at i ahead)
+      by : (v : Verdict) → fits x here 0 ≡ v → after_first v (fits y behind 1) ≡ Asks ahead → IsToken t (ask_at i ahead)
       by Holds e h =
-          let f : (is_name next.kind ≡ true) × (1 ≡ ahead) = fits_asks y next 1 ahead h in
+          let f : (is_name behind.kind ≡ true) × (1 ≡ ahead) = fits_asks y behind 1 ahead h in
           subst (λ k. IsToken t (ask_at i k)) f.1 (name_token t (i + 1) f.0)
       by Fails e h = cc
       by (Asks k) e h =
           let f : (is_name here.kind ≡ true) × (0 ≡ ahead) = fits_asks x here 0 ahead (e ∙ h) in
           subst (λ k. IsToken t (ask_at i k)) f.1 (name_token t i f.0)
 
-  pub chosen_asks : (rs : List Row) (asks : List Item) (body : List Symbol) → Chosen rs here next i asks body → AllAsked t asks
+  pub chosen_asks : (rs : List Row) (asks : List Item) (body : List Symbol) → Chosen rs here behind i asks body → AllAsked t asks
   chosen_asks [] asks body h = absurd h
   chosen_asks (r ∷ rs) asks body h =
-      by (verdict r.0 here next) (verdict_asks r.0) (λ more c. chosen_asks rs more body c) h
+      by (verdict r.0 here behind) (verdict_asks r.0) (λ more c. chosen_asks rs more body c) h
     where
-      by : (v : Verdict) → ((ahead : ℕ) → v ≡ Asks ahead → IsToken t (ask_at i ahead)) → ((more : List Item) → Chosen rs here next i more body → AllAsked t more) → ChosenBy v r (λ more. Chosen rs here next i more body) i asks body → AllAsked t asks
+      by : (v : Verdict) → ((ahead : ℕ) → v ≡ Asks ahead → IsToken t (ask_at i ahead)) → ((more : List Item) → Chosen rs here behind i more body → AllAsked t more) → ChosenBy v r (λ more. Chosen rs here behind i more body) i asks body → AllAsked t asks
       by Holds f later h = subst (AllAsked t) (sym h.0) tt
       by Fails f later h = later asks h
       by (Asks ahead) f later (inl h) = subst (AllAsked t) (sym h.0) (f ahead refl, tt)

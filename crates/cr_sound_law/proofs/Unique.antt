@@ -1,5 +1,5 @@
 -- Members of a record are unique by their names.
-use Rattle.std.specs.Prelude.{◌≡◌, ℕ, zero, suc, Bool, true, false, ◌==◌, if◌then◌else◌, Option, Some, None, List, [], ◌∷◌, ◌++◌, map, filter, slice_get, Contains}
+use Rattle.std.specs.Prelude.{◌≡◌, ℕ, zero, suc, Bool, true, false, ◌==◌, if◌then◌else◌, None, List, [], ◌∷◌, ◌++◌, map, filter, Contains}
 use Rattle.std.specs.List.{list_any}
 use Rattle.std.proofs.Common.{refl, sym, ◌∙◌, ap, subst, inl, inr, arith}
 use Rattle.std.proofs.lemmas.Bool.{eq-eqb, eqb-true}
@@ -62,7 +62,7 @@ module _ (t : Source) where
   apart_brought r q [] one a = tt
   apart_brought r q (m ∷ ms) one a = (
     λ n c holders names. (let k = brought_from r ms n c in
-    a.0 k.0 k.1 (one m (0, omega arith, refl) ∙ sym (one k.0 (in_tail m k.0 ms k.1))) (names ∙ ap (name_at t) (sym k.2))),
+        a.0 k.0 k.1 (one m (0, omega arith, refl) ∙ sym (one k.0 (in_tail m k.0 ms k.1))) (names ∙ ap (name_at t) (sym k.2))),
     apart_brought r q ms (λ n c. one n (in_tail m n ms c)) a.1,
   )
 

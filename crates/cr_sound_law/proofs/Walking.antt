@@ -1,14 +1,13 @@
 -- A well-formed unit is sound.
-use Rattle.std.specs.Prelude.{◌≡◌, ◌⊎◌, ℕ, zero, suc, ◌+◌, ◌<◌, ◌≤◌, Bool, true, false, not, ◌&&◌, ◌||◌, if◌then◌else◌, Option, Some, None, is_some, unwrap_or, List, [], ◌∷◌, ◌++◌, length, Contains}
-use Rattle.std.proofs.Common.{refl, sym, ◌∙◌, ap, subst, inl, inr, arith}
+use Rattle.std.specs.Prelude.{◌≡◌, ℕ, ◌+◌, ◌<◌, ◌≤◌, Bool, true, false, not, ◌&&◌, ◌||◌, if◌then◌else◌, Option, Some, None, is_some, unwrap_or, List, [], ◌∷◌, ◌++◌, length, Contains}
+use Rattle.std.proofs.Common.{refl, sym, ◌∙◌, ap, subst, arith}
 use Rattle.cr_base.specs.declared.cause.IllCause.{IllCause}
 use Rattle.cr_base.specs.declared.token.Tok.{Tok}
 use Rattle.cr_grammar.specs.declared.symbols.NonTerm.{NonTerm}
 use Rattle.cr_grammar.specs.declared.symbols.NonTerm.TheVariants as n
-use Rattle.cr_grammar.specs.declared.symbols.Action.{Action}
 use Rattle.cr_grammar.specs.declared.symbols.Symbol.{Symbol}
 use Rattle.cr_grammar.specs.declared.symbols.Symbol.TheVariants.{Term, Non, Act}
-use Rattle.cr_grammar.specs.Grammar.{Row, rule}
+use Rattle.cr_grammar.specs.Grammar.{rule}
 use Rattle.cr_ll.specs.Guards.{terminals, token_at, the_end}
 use Rattle.cr_ll.specs.Derivation.{Item, Passed, Due, Asked, Trees, none, token, action, node, Chosen, Derives}
 use Rattle.cr_ll.specs.Laws.{unit}
@@ -17,10 +16,11 @@ use Rattle.cr_decl.specs.Specifiers.{is_permitted}
 use Rattle.cr_binding.specs.Source.{Source}
 use Rattle.cr_binding.specs.State.{Declaration, Record, Member, Use, State, WasAsked, start}
 use Rattle.cr_binding.specs.Declaring.{used}
+use Rattle.cr_binding.specs.Specifying.{read_in}
 use Rattle.cr_binding.specs.Scoping.{unless_failed}
 use Rattle.cr_binding.specs.Actions.{passed, acted}
 use Rattle.cr_binding.specs.Binding.{has_own_pending, is_empty, ended_as, ended, unless_refused, asked, goes_on, walk, bound}
-use Rattle.cr_binding.specs.BindingGrows.{Grows, BindingGrows, FaultStays}
+use Rattle.cr_binding.specs.BindingGrows.{BindingGrows, FaultStays}
 use Rattle.cr_binding.specs.WellFormed.{IsWellFormed, terminals_of}
 use Rattle.cr_sound_law.specs.Sound.{IsToken, IsSound, UsesAreSound, DeclarationsAreAtTokens, MembersAreAtTokens, RecordsAreAtTokens, HiddenAreTokens, MembersAreUnique}
 use Rattle.cr_sound_law.proofs.Lists.{nothing_in, longer, and_both}

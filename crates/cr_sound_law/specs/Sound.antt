@@ -4,7 +4,7 @@ use Rattle.cr_ll.specs.Derivation.{Trees}
 use Rattle.cr_scope.specs.declared.Space.{Space}
 use Rattle.cr_scope.specs.Declarations.{is_prefix}
 use Rattle.cr_binding.specs.Source.{Source, name_at}
-use Rattle.cr_binding.specs.State.{Declaration, Record, Member, Use, LookedUp, GoesTo, Selects, IsBuiltIn, IsParameter, WasAsked, State}
+use Rattle.cr_binding.specs.State.{Declaration, Record, Member, Use, LookedUp, GoesTo, Selects, IsBuiltIn, IsParameter, WasAsked}
 use Rattle.cr_binding.specs.Binding.{bound}
 use Rattle.cr_binding.specs.WellFormed.{IsWellFormed}
 
