@@ -1,0 +1,9 @@
+use Rattle.cr_acting.proofs.Parts.{by_bound_alone}
+use Rattle.cr_acting.specs.Binding.{source_by}
+use Rattle.cr_binding.specs.Scoping.{left}
+use Rattle.cr_bound.specs.Bound.{Any}
+use Rattle.cr_acting.proofs.binding.Binding.leave.Goals as goal
+
+pub returns : goal.returns
+returns c =
+    by_bound_alone (source_by c.args.spot.words) c.args.self.now.types c.args.self.now.bound c.args.self.now.operands c.requires Any (λ t. left) _ c.operands_stay.ensures tt (c.leave.ensures.ok c.args.self.now.types) (c.leave.ensures.typed c.args.self.now.types c.requires.whole.typed)
