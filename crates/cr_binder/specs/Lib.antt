@@ -1,0 +1,2 @@
+pub mod Binder
+pub mod Frames
