@@ -1,0 +1,2 @@
+pub mod Sema
+pub mod Walking
