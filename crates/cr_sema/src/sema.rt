@@ -12,6 +12,7 @@ use crate::fault::SemaFault;
 use crate::walk::Walk;
 use cr_acting::Words;
 use cr_base::{NameTable, OutOfMemory, PathNo, Place, Tok};
+use cr_bound::Bound;
 use cr_ll::Event;
 use cr_names::BindFault;
 use std::alloc::Global;
@@ -46,6 +47,13 @@ impl Sema {
     {
         let walk = Walk::new(alloc)?;
         Ok(Sema { walk, spent: false })
+    }
+
+    /// What is bound of the unit so far: its declarations, uses and records.
+    pub fn bound(&self) -> &Bound
+        ensures { result.now ≡ self.now.walk.binder.binding.bound }
+    {
+        self.walk.binder.binding().bound()
     }
 
     /// The next event that the machine of the grammar gives for these tokens, which are those of all calls: a token, an
