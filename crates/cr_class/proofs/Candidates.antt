@@ -1,5 +1,5 @@
 -- What a target means, from the facts of a list.
-use Rattle.std.proofs.Common.{◌≡◌, ℕ, ◌<◌, ◌⊎◌, Bool, true, false, ◌&&◌, ◌||◌, List, [], ◌∷◌, length, Option, Some, None, refl, sym, ap, ◌∙◌, subst, inl, inr, arith}
+use Rattle.std.proofs.Common.{◌≡◌, ℕ, ◌⊎◌, Bool, true, false, ◌&&◌, ◌||◌, List, [], ◌∷◌, Some, None, refl, sym, ap, ◌∙◌, subst, inl, inr, arith}
 use Rattle.std.specs.Prelude.{if◌then◌else◌, ◌≢◌, ◌↔◌}
 use Rattle.std.specs.List.{Contains, filter_map}
 use Rattle.std.specs.FinSet.{contains, from_list}
@@ -20,20 +20,12 @@ use Rattle.cr_facts.specs.declared.fact.Fact.TheVariants.{Declares, Denotes, OfK
 use Rattle.cr_snapshot.specs.declared.known.KnownFile.{KnownFile}
 use Rattle.cr_class.specs.RenameClass.{Has, key_cmp, is_of_kinds, is_file_scope, is_renamable, renamable_kinds, ordinary_kinds, DeclaresFileScope, IsFirstPlace, MeansInternal, MeansOrdinary, means_by}
 use Rattle.cr_class.specs.ShownOrder.{shown_cmp, path_of}
-use Rattle.cr_class.specs.Declarations.{least, lesser, file_scope_place, file_scope_key, denoted_key, key_shown_at}
+use Rattle.cr_class.specs.Declarations.{least, file_scope_place, file_scope_key, denoted_key, key_shown_at}
 use Rattle.cr_class.proofs.Listed.{listed, told, kept, from_kept, cons_cases}
-use Rattle.cr_class.proofs.Least.{least_below, least_among, least_none, lesser_is}
+use Rattle.cr_class.proofs.Least.{least_below, least_among, least_none}
 
 pub shown_total : (files : List KnownFile) → IsTotalOrder (shown_cmp files)
 shown_total files = then_total (on_total (path_of files) nat_list_cmp_total) (on_total (λ (p : Place). p.offset) nat_cmp_total)
-
-pub lesser_known : (files : List KnownFile) (best : Option Place) (place p : Place) → ((q : Place) → best ≡ Some q → q.path.0 < length files) → place.path.0 < length files
-    → lesser (shown_cmp files) best place ≡ p → p.path.0 < length files
-lesser_known files best place p known own e = by (lesser_is (shown_cmp files) (shown_total files) best place p e)
-  where
-    by : (best ≡ Some p) ⊎ (place ≡ p) → p.path.0 < length files
-    by (inl h) = known p h
-    by (inr h) = subst (λ (q : Place). q.path.0 < length files) h own
 
 if_some : {X : Type 0} (b : Bool) (x y : X) → (if b then Some x else None) ≡ Some y → (b ≡ true) × (x ≡ y)
 if_some true x y e = (refl, cc)

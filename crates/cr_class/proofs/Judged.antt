@@ -1,6 +1,6 @@
 -- What each step of a verdict finds.
-use Rattle.std.proofs.Common.{◌≡◌, ℕ, ◌+◌, ◌<◌, ◌⊎◌, Bool, true, false, ◌||◌, List, [], ◌∷◌, length, Option, Some, None, Result, Err, refl, sym, ap, ◌∙◌, subst, inl, inr, arith}
-use Rattle.std.specs.Prelude.{Ok, OnOk, ◌↔◌, not, if◌then◌else◌, ◌&&◌}
+use Rattle.std.proofs.Common.{◌≡◌, ℕ, ◌+◌, ◌<◌, ◌⊎◌, Bool, true, false, ◌||◌, List, [], ◌∷◌, Option, Some, None, Result, Err, refl, sym, ap, ◌∙◌, subst, inl, inr, arith}
+use Rattle.std.specs.Prelude.{Ok, OnOk, ◌↔◌}
 use Rattle.std.specs.List.{Contains, list_any}
 use Rattle.std.specs.declared.cmp.Ordering.{Ordering}
 use Rattle.std.specs.Cmp.{IsTotalOrder, on_total}
@@ -12,13 +12,13 @@ use Rattle.cr_base.specs.declared.key.Key.{Key}
 use Rattle.cr_base.specs.contracts.cause.RoleOrd.TheImpl.Laws.{total-law}
 use Rattle.cr_facts.specs.FactOrder.{Facts, FactsAreOrdered}
 use Rattle.cr_facts.specs.declared.fact.Fact.{Fact}
-use Rattle.cr_facts.specs.declared.fact.Fact.TheVariants.{Denotes, FileScope, HasRole, MadeDenotes, NewMacro, BodyParam, OpaqueAt, Conflict}
+use Rattle.cr_facts.specs.declared.fact.Fact.TheVariants.{FileScope}
 use Rattle.cr_snapshot.specs.declared.known.KnownFile.{KnownFile}
-use Rattle.cr_class.specs.RenameClass.{Has, AreKnown}
+use Rattle.cr_class.specs.RenameClass.{Has}
 use Rattle.cr_class.specs.ShownOrder.{path_of}
 use Rattle.cr_class.specs.Judging.{scope_of}
-use Rattle.cr_class.specs.Declarations.{least, lesser}
-use Rattle.cr_class.specs.Verdict.{IsGiven, IsLeast, Passes, Refuses, IsFirstRefusal, step_of, use_cmp, is_in_class, is_renamed, macro_place, mixed_use, made_place, opaque_place, capture_place, IsCaptured, IsClashPlace, is_mixed_role, is_made_role, is_unwritable_path, is_unspellable_at, bytes_of, IsReservedScope}
+use Rattle.cr_class.specs.Declarations.{least}
+use Rattle.cr_class.specs.Verdict.{IsGiven, IsLeast, Passes, Refuses, IsFirstRefusal, step_of, use_cmp, is_in_class, is_renamed, macro_place, mixed_use, made_place, opaque_place, IsCaptured, IsClashPlace, is_unwritable_path, is_unspellable_at, bytes_of, IsReservedScope}
 use Rattle.cr_class.specs.declared.class.Class.{Class}
 use Rattle.cr_class.specs.declared.uses.Use.{Use}
 use Rattle.cr_class.specs.declared.refusal.Refusal.{Refusal}
@@ -26,19 +26,11 @@ use Rattle.cr_class.specs.declared.refusal.VerdictFault.{VerdictFault}
 use Rattle.cr_class.specs.declared.refusal.VerdictFault.TheVariants as fault
 use Rattle.cr_class.specs.declared.refusal.Refusal.TheVariants as refusal
 use Rattle.cr_class.proofs.Listed.{later, cons_cases, listed, told}
-use Rattle.cr_class.proofs.Least.{least_below, least_among, least_none, lesser_is}
+use Rattle.cr_class.proofs.Least.{least_below, least_among, least_none}
 use Rattle.cr_class.proofs.Candidates.{shown_total}
 
 pub use_total : (files : List KnownFile) → IsTotalOrder (use_cmp files)
 use_total files = then_total (on_total (λ (u : Use). u.place) (shown_total files)) (on_total (λ (u : Use). u.role) total-law)
-
-pub lesser_use_known : (files : List KnownFile) (best : Option Use) (other u : Use) → ((v : Use) → best ≡ Some v → v.place.path.0 < length files) → other.place.path.0 < length files
-    → lesser (use_cmp files) best other ≡ u → u.place.path.0 < length files
-lesser_use_known files best other u known own e = by (lesser_is (use_cmp files) (use_total files) best other u e)
-  where
-    by : (best ≡ Some u) ⊎ (other ≡ u) → u.place.path.0 < length files
-    by (inl h) = known u h
-    by (inr h) = subst (λ (v : Use). v.place.path.0 < length files) h own
 
 -- the least of what a list has, which is what a predicate holds of
 module _ {X : Type 0} (R : X → X → Ordering) (order : IsTotalOrder R) (P : X → Type 0) (xs : List X) (are : (x : X) → Contains xs x ↔ P x) where
@@ -59,36 +51,6 @@ any_true {X} t (y ∷ xs) e = by (t y) refl e (any_true t xs)
     by : (b : Bool) → t y ≡ b → (b || list_any t xs) ≡ true → (list_any t xs ≡ true → (x : X) × Contains xs x × (t x ≡ true)) → (x : X) × Contains (y ∷ xs) x × (t x ≡ true)
     by true h g rest = (y, (0, omega arith, refl), h)
     by false h g rest = let r = rest g in (r.0, later y r.0 xs r.1, r.2)
-
--- where a fact gives a place, the snapshot knows it
-module _ (files : List KnownFile) (facts : Facts) (known : AreKnown files facts) where
-  if_same : {X : Type 0} (b : Bool) (x y : X) → (if b then Some x else None) ≡ Some y → x ≡ y
-  if_same true x y e = cc
-  if_same false x y e = let bad : ⊥ = cc in absurd bad
-
-  pub known_macro : (p : Place) → IsGiven macro_place facts p → p.path.0 < length files
-  known_macro p (NewMacro q, has, e) = let same : q ≡ p = cc in subst (λ (r : Place). r.path.0 < length files) same (known (NewMacro q) has)
-  known_macro p (f, has, e) = let bad : ⊥ = cc in absurd bad
-
-  pub known_opaque : (p : Place) → IsGiven opaque_place facts p → p.path.0 < length files
-  known_opaque p (OpaqueAt q, has, e) = let same : q ≡ p = cc in subst (λ (r : Place). r.path.0 < length files) same (known (OpaqueAt q) has)
-  known_opaque p (f, has, e) = let bad : ⊥ = cc in absurd bad
-
-  module _ (in_class : Key → Bool) (renamed : Place → Bool) where
-    pub known_mixed : (u : Use) → IsGiven (mixed_use in_class renamed) facts u → u.place.path.0 < length files
-    known_mixed u (Denotes q k, has, e) = subst (λ (v : Use). v.place.path.0 < length files) (if_same (renamed q && not (in_class k)) _ u e) (known (Denotes q k) has)
-    known_mixed u (HasRole q r, has, e) = subst (λ (v : Use). v.place.path.0 < length files) (if_same (renamed q && is_mixed_role r) _ u e) (known (HasRole q r) has)
-    known_mixed u (f, has, e) = let bad : ⊥ = cc in absurd bad
-
-    pub known_made : (p : Place) → IsGiven (made_place in_class renamed) facts p → p.path.0 < length files
-    known_made p (MadeDenotes k q, has, e) = subst (λ (r : Place). r.path.0 < length files) (if_same (in_class k) q p e) (known (MadeDenotes k q) has)
-    known_made p (HasRole q r, has, e) = subst (λ (s : Place). s.path.0 < length files) (if_same (renamed q && is_made_role r) q p e) (known (HasRole q r) has)
-    known_made p (f, has, e) = let bad : ⊥ = cc in absurd bad
-
-    pub known_capture : (p : Place) → IsGiven (capture_place in_class renamed) facts p → p.path.0 < length files
-    known_capture p (Conflict k q, has, e) = subst (λ (r : Place). r.path.0 < length files) (if_same (in_class k) q p e) (known (Conflict k q) has)
-    known_capture p (BodyParam q, has, e) = subst (λ (r : Place). r.path.0 < length files) (if_same (renamed q) q p e) (known (BodyParam q) has)
-    known_capture p (f, has, e) = let bad : ⊥ = cc in absurd bad
 
 -- where nothing is found, no refusal of the step holds
 module _ (facts : Facts) (class : Class) (files : List KnownFile) (root : Option (List ℕ)) (old new : List ℕ) where

@@ -6,17 +6,13 @@ use Rattle.std.specs.Option.{option_map}
 use Rattle.std.specs.BTreeSet as tree
 use Rattle.cr_base.specs.declared.token.Place.{Place}
 use Rattle.cr_base.specs.declared.key.Key.{Key}
-use Rattle.cr_class.specs.RenameClass.{AreKnown, key_cmp, place_cmp}
+use Rattle.cr_class.specs.RenameClass.{key_cmp, place_cmp}
 use Rattle.cr_class.specs.ShownOrder.{shown_cmp}
-use Rattle.cr_class.specs.Verdict.{is_in_class, is_renamed, KnowsClass, IsLeast, IsClashPlace, Passes, Refuses, IsFirstRefusal, step_of}
+use Rattle.cr_class.specs.Verdict.{is_in_class, is_renamed, IsLeast, IsClashPlace, Passes, Refuses, IsFirstRefusal, step_of}
 use Rattle.cr_class.specs.declared.question.Question.{Question}
 use Rattle.cr_class.specs.declared.question.Members.{Members}
 use Rattle.cr_class.specs.declared.refusal.Refusal.{Refusal}
 use Rattle.cr_class.specs.declared.refusal.Refusal.TheVariants as refusal
-
--- the question is of places that the snapshot knows
-abbrev pub IsAsked : Question → Type 0
-IsAsked q = AreKnown q.snapshot.now q.facts.now × KnowsClass q.snapshot.now q.class.now
 
 -- the sets are of the class of the question
 abbrev pub HasMembers : Question → Members → Type 0

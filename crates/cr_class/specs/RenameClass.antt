@@ -101,10 +101,6 @@ pub data InClass (files : List KnownFile) (facts : Facts) (old : List ℕ) (t : 
 abbrev pub IsRenamedPlace : List KnownFile → Facts → List ℕ → Target → Place → Type 0
 IsRenamedPlace files facts old t p = (k : Key) × InClass files facts old t k × Has facts (Denotes p k)
 
--- each place at which a fact declares an entity is in a file whose number these files have
-abbrev pub DeclaresKnown : List KnownFile → Facts → Type 0
-DeclaresKnown files facts = (k : Key) (p : Place) → Has facts (Declares k p) → p.path.0 < length files
-
 -- the place of a fact is in a file whose number is below this one
 abbrev pub IsKnownFact : ℕ → Fact → Type 0
 IsKnownFact count (Declares k p) = p.path.0 < count

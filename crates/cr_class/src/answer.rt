@@ -3,10 +3,9 @@ ghost use Rattle.std.specs.Prelude.{◌≡◌, ◌<◌, ℕ, Err, IfOk, OnOk};
 ghost use Rattle.std.specs.Option.{option_map};
 ghost use Rattle.cr_class.specs.declared.refusal.Refusal.{Refusal as AnyRefusal};
 ghost use Rattle.cr_class.specs.declared.refusal.VerdictFault.TheVariants as fault;
-ghost use Rattle.cr_class.specs.RenameClass.{AreKnown};
 ghost use Rattle.cr_class.specs.Accepted.{NothingRefuses};
-ghost use Rattle.cr_class.specs.Verdict.{KnowsClass, Refuses, IsFirstRefusal};
-ghost use Rattle.cr_class.specs.Judging.{IsAsked, PassesStep, RefusesFirst};
+ghost use Rattle.cr_class.specs.Verdict.{Refuses, IsFirstRefusal};
+ghost use Rattle.cr_class.specs.Judging.{PassesStep, RefusesFirst};
 
 use crate::class::Class;
 use crate::laws::an_accepted_verdict_tells_of_each_fact;
@@ -23,7 +22,6 @@ use std::alloc::Global;
 
 // Refuses with the first refusal in the order of the steps.
 fn judge(alloc: Global, question: &Question) -> Result<(), VerdictFault>
-    requires { IsAsked question.now }
     ensures ok { OnOk result ((step : ℕ) → step < 8 → PassesStep question.now step) }
     ensures refused { (r : AnyRefusal) → result ≡ Err (fault.Refused r) → RefusesFirst question.now r }
 {
@@ -40,8 +38,7 @@ fn judge(alloc: Global, question: &Question) -> Result<(), VerdictFault>
 }
 
 /// The places of a class, where the new name may stand in the place of the old one at each of them; else
-/// the first refusal in the order of `Refusal`, with its place. The facts are those of all units, and the
-/// snapshot knows the path of each fact and of each place of the class.
+/// the first refusal in the order of `Refusal`, with its place. The facts are those of all units.
 ///
 /// An edit reaches only files below `root`, where one is given, and never a path that begins with `//`.
 pub fn verdict(
@@ -53,8 +50,6 @@ pub fn verdict(
     old: &[u8],
     new: &[u8],
 ) -> Result<Vec<Place>, VerdictFault>
-    requires facts { AreKnown snapshot.now facts.now }
-    requires class { KnowsClass snapshot.now class.now }
     ensures places { IfOk result (λ places. places.items ≡ class.now.places) }
     ensures ok { IfOk result (λ places. (r : AnyRefusal) → Refuses facts.now class.now snapshot.now (option_map (λ r. r.now) root.entry) old.now new.now r → ⊥) }
     ensures accepted { IfOk result (λ places. NothingRefuses facts.now class.now snapshot.now (option_map (λ r. r.now) root.entry) old.now new.now) }

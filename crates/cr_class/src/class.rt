@@ -71,7 +71,8 @@ fn places_of(
 /// The class of a target over the facts of all units, for the old name. It is the least set that has the
 /// target's keys and every key that shares a declaring place with one in the set. A target's keys are
 /// those that it means and that have a kind other than a label (C11 6.2.1, 6.2.2). Keys and places rise,
-/// each once, places by the number of their path. The snapshot knows the path of each fact.
+/// each once, places by the number of their path. Where the snapshot knows the path of each fact, it
+/// knows that of each place.
 ///
 /// `NoSymbol` comes exactly where the target has no key.
 pub fn class_of(
@@ -81,12 +82,11 @@ pub fn class_of(
     old: &[u8],
     target: &Target,
 ) -> Result<Class, ClassFault>
-    requires { AreKnown snapshot.now facts.now }
     ensures keys { IfOk result (λ class. (k : AnyKey) → Contains class.keys k ↔ InClass snapshot.now facts.now old.now target.now k) }
     ensures keys_rise { IfOk result (λ class. IsStrictlySortedBy key_cmp class.keys) }
     ensures places { IfOk result (λ class. (p : AnyPlace) → Contains class.places p ↔ IsRenamedPlace snapshot.now facts.now old.now target.now p) }
     ensures places_rise { IfOk result (λ class. IsStrictlySortedBy place_cmp class.places) }
-    ensures known { IfOk result (λ class. KnowsClass snapshot.now class) }
+    ensures known { IfOk result (λ class. AreKnown snapshot.now facts.now → KnowsClass snapshot.now class) }
     ensures symbol { IfOk result (λ class. (k : AnyKey) × IsTargetKey snapshot.now facts.now old.now target.now k) }
     ensures no_symbol { result ≡ Err fault.NoSymbol → (k : AnyKey) → IsTargetKey snapshot.now facts.now old.now target.now k → ⊥ }
 {

@@ -4,10 +4,12 @@ ghost use Rattle.std.specs.Option.{option_map};
 ghost use Rattle.std.specs.List.{Contains};
 ghost use Rattle.cr_base.specs.Path as paths;
 ghost use Rattle.cr_base.specs.declared.token.Place.{Place as AnyPlace};
+ghost use Rattle.cr_snapshot.specs.Files.{finding};
 ghost use Rattle.cr_snapshot.specs.IncludeSearch as search;
 ghost use Rattle.cr_class.specs.ShownOrder.{path_of};
 ghost use Rattle.cr_class.specs.Verdict as spec;
 
+use crate::target::path_of;
 use cr_base::{Name, Origin, OutOfMemory, PathText, Place, PpKind, PpTok};
 use cr_lex::is_unspellable;
 use cr_snapshot::{Found, Snapshot};
@@ -56,10 +58,9 @@ fn is_inside(root: &[u8], path: &[u8]) -> bool
 }
 
 fn is_unwritable(snapshot: &Snapshot, root: Option<&PathText>, place: Place) -> bool
-    requires { place.path.0 < length snapshot.now }
     ensures { result ≡ spec.is_unwritable_path (option_map (λ r. r.now) root.entry) (path_of snapshot.now place) }
 {
-    let path = snapshot.path(place.path).bytes();
+    let path = path_of(snapshot, place);
     match root {
         None => is_apart(path),
         Some(root) => is_apart(path) || !is_inside(root.bytes(), path),
@@ -73,7 +74,6 @@ pub fn unwritable_places(
     root: Option<&PathText>,
     places: &[Place],
 ) -> Result<Vec<Place>, OutOfMemory>
-    requires { (p : AnyPlace) → Contains places.now p → p.path.0 < length snapshot.now }
     ensures { IfOk result (λ found. (p : AnyPlace) → Contains found.items p
         ↔ (Contains places.now p × (spec.is_unwritable_path (option_map (λ r. r.now) root.entry) (path_of snapshot.now p) ≡ true))) }
 {
@@ -86,15 +86,25 @@ pub fn unwritable_places(
     Ok(found)
 }
 
+// The bytes of the file at a path.
+fn bytes_at<'a>(snapshot: &'a Snapshot, path: &PathText) -> &'a [u8]
+    ensures bytes { result.now ≡ spec.present_bytes (finding path.now snapshot.now) }
+    ensures small { length result.now ≤ 16777216 }
+{
+    match snapshot.get(path) {
+        Found::Known(_, bytes) => bytes,
+        _ => &[],
+    }
+}
+
 // The bytes of the file of a place.
-fn bytes_of(snapshot: &Snapshot, place: Place) -> &[u8]
-    requires { place.path.0 < length snapshot.now }
+fn bytes_of(alloc: Global, snapshot: &Snapshot, place: Place) -> &[u8]
     ensures bytes { result.now ≡ spec.bytes_of snapshot.now place }
     ensures small { length result.now ≤ 16777216 }
 {
-    match snapshot.get(snapshot.path(place.path)) {
-        Found::Known(_, bytes) => bytes,
-        _ => &[],
+    match snapshot.path_at(place.path) {
+        Some(path) => bytes_at(snapshot, path),
+        None => bytes_at(snapshot, &PathText::empty(alloc)),
     }
 }
 
@@ -135,13 +145,12 @@ pub fn unspellable_places(
     new: &[u8],
     places: &[Place],
 ) -> Result<Vec<Place>, OutOfMemory>
-    requires { (p : AnyPlace) → Contains places.now p → p.path.0 < length snapshot.now }
     ensures { IfOk result (λ found. (p : AnyPlace) → Contains found.items p
         ↔ (Contains places.now p × (spec.is_unspellable_at old.now new.now (spec.bytes_of snapshot.now p) p.offset ≡ true))) }
 {
     let mut found = Vec::new(alloc);
     for place in places {
-        if is_unspellable_at(old, new, bytes_of(snapshot, *place), *place) {
+        if is_unspellable_at(old, new, bytes_of(alloc, snapshot, *place), *place) {
             found.push(*place)?;
         }
     }

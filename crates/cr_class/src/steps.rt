@@ -9,7 +9,7 @@ ghost use Rattle.cr_class.specs.ShownOrder.{shown_cmp};
 ghost use Rattle.cr_class.specs.Declarations.{lesser, least};
 ghost use Rattle.cr_class.specs.Verdict as spec;
 ghost use Rattle.cr_class.specs.Verdict.{use_cmp};
-ghost use Rattle.cr_class.specs.Judging.{IsAsked, HasMembers, PassesStep, RefusesAt, HasNoClash, IsClash};
+ghost use Rattle.cr_class.specs.Judging.{HasMembers, PassesStep, RefusesAt, HasNoClash, IsClash};
 
 use crate::files::{unspellable_places, unwritable_places};
 use crate::places::{
@@ -27,7 +27,6 @@ use std::cmp::Ordering;
 
 // The place that is shown first.
 fn least_place(snapshot: &Snapshot, places: &[Place]) -> Option<Place>
-    requires { (p : AnyPlace) → Contains places.now p → p.path.0 < length snapshot.now }
     ensures { result ≡ least (shown_cmp snapshot.now) None places.now }
 {
     let mut best = None;
@@ -39,8 +38,6 @@ fn least_place(snapshot: &Snapshot, places: &[Place]) -> Option<Place>
 
 // The one of two uses that is shown first: by place, then by role.
 fn first_use(snapshot: &Snapshot, best: Option<Use>, other: Use) -> Use
-    requires best { MatchOption best (Unit {0}) (λ u. u.place.path.0 < length snapshot.now) }
-    requires other { other.place.path.0 < length snapshot.now }
     ensures { result ≡ lesser (use_cmp snapshot.now) best other }
 {
     match best {
@@ -58,7 +55,6 @@ fn first_use(snapshot: &Snapshot, best: Option<Use>, other: Use) -> Use
 
 // The use that is shown first.
 fn least_use(snapshot: &Snapshot, uses: &[Use]) -> Option<Use>
-    requires { (u : AnyUse) → Contains uses.now u → u.place.path.0 < length snapshot.now }
     ensures { result ≡ least (use_cmp snapshot.now) None uses.now }
 {
     let mut best = None;
@@ -95,7 +91,7 @@ fn is_underscored(name: &[u8]) -> bool
 }
 
 pub fn refuse_reserved(question: &Question, members: &Members) -> Result<(), VerdictFault>
-    requires members { HasMembers question.now members.now }
+    requires { HasMembers question.now members.now }
     ensures ok { OnOk result (PassesStep question.now 0) }
     ensures refused { (r : AnyRefusal) → result ≡ Err (fault.Refused r) → RefusesAt question.now 0 r }
 {
@@ -106,7 +102,6 @@ pub fn refuse_reserved(question: &Question, members: &Members) -> Result<(), Ver
 }
 
 pub fn refuse_macro(alloc: Global, question: &Question) -> Result<(), VerdictFault>
-    requires asked { IsAsked question.now }
     ensures ok { OnOk result (PassesStep question.now 1) }
     ensures refused { (r : AnyRefusal) → result ≡ Err (fault.Refused r) → RefusesAt question.now 1 r }
 {
@@ -123,8 +118,7 @@ pub fn refuse_mixed(
     question: &Question,
     members: &Members,
 ) -> Result<(), VerdictFault>
-    requires asked { IsAsked question.now }
-    requires members { HasMembers question.now members.now }
+    requires { HasMembers question.now members.now }
     ensures ok { OnOk result (PassesStep question.now 2) }
     ensures refused { (r : AnyRefusal) → result ≡ Err (fault.Refused r) → RefusesAt question.now 2 r }
 {
@@ -141,8 +135,7 @@ pub fn refuse_made(
     question: &Question,
     members: &Members,
 ) -> Result<(), VerdictFault>
-    requires asked { IsAsked question.now }
-    requires members { HasMembers question.now members.now }
+    requires { HasMembers question.now members.now }
     ensures ok { OnOk result (PassesStep question.now 3) }
     ensures refused { (r : AnyRefusal) → result ≡ Err (fault.Refused r) → RefusesAt question.now 3 r }
 {
@@ -155,7 +148,6 @@ pub fn refuse_made(
 }
 
 pub fn refuse_unwritable(alloc: Global, question: &Question) -> Result<(), VerdictFault>
-    requires asked { IsAsked question.now }
     ensures ok { OnOk result (PassesStep question.now 4) }
     ensures refused { (r : AnyRefusal) → result ≡ Err (fault.Refused r) → RefusesAt question.now 4 r }
 {
@@ -168,7 +160,6 @@ pub fn refuse_unwritable(alloc: Global, question: &Question) -> Result<(), Verdi
 }
 
 pub fn refuse_spelling(alloc: Global, question: &Question) -> Result<(), VerdictFault>
-    requires asked { IsAsked question.now }
     ensures ok { OnOk result (PassesStep question.now 5) }
     ensures refused { (r : AnyRefusal) → result ≡ Err (fault.Refused r) → RefusesAt question.now 5 r }
 {
@@ -181,7 +172,6 @@ pub fn refuse_spelling(alloc: Global, question: &Question) -> Result<(), Verdict
 }
 
 pub fn refuse_opaque(alloc: Global, question: &Question) -> Result<(), VerdictFault>
-    requires asked { IsAsked question.now }
     ensures ok { OnOk result (PassesStep question.now 6) }
     ensures refused { (r : AnyRefusal) → result ≡ Err (fault.Refused r) → RefusesAt question.now 6 r }
 {
@@ -198,8 +188,7 @@ pub fn refuse_capture(
     question: &Question,
     members: &Members,
 ) -> Result<(), VerdictFault>
-    requires asked { IsAsked question.now }
-    requires members { HasMembers question.now members.now }
+    requires { HasMembers question.now members.now }
     ensures ok { OnOk result (PassesStep question.now 7) }
     ensures refused { (r : AnyRefusal) → result ≡ Err (fault.Refused r) → RefusesAt question.now 7 r }
 {
@@ -213,7 +202,6 @@ pub fn refuse_capture(
 
 // An entity of the class that would become one with another: the least place of the class shows it.
 fn refuse_clash(alloc: Global, question: &Question) -> Result<(), VerdictFault>
-    requires asked { IsAsked question.now }
     ensures ok { OnOk result (HasNoClash question.now) }
     ensures refused { (r : AnyRefusal) → result ≡ Err (fault.Refused r) → IsClash question.now r }
 {

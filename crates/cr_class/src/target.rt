@@ -9,7 +9,7 @@ ghost use Rattle.cr_base.specs.declared.key.Key.{Key as AnyKey};
 ghost use Rattle.cr_base.specs.declared.token.Place.{Place as AnyPlace};
 ghost use Rattle.cr_facts.specs.declared.fact.Fact.TheVariants as fact;
 ghost use Rattle.cr_class.specs.RenameClass as spec;
-ghost use Rattle.cr_class.specs.RenameClass.{Has, IsTargetKey, MeansOrdinary, MeansInternal, DeclaresKnown, DeclaresFileScope, IsFirstPlace, key_cmp};
+ghost use Rattle.cr_class.specs.RenameClass.{Has, IsTargetKey, MeansOrdinary, MeansInternal, DeclaresFileScope, IsFirstPlace, key_cmp};
 ghost use Rattle.cr_class.specs.ShownOrder as shown;
 ghost use Rattle.cr_class.specs.Declarations.{lesser};
 
@@ -30,20 +30,26 @@ pub enum Target {
     MemberOf(TagKind, Text),
 }
 
+/// The path of a place, or nothing where no path has its number.
+pub fn path_of(snapshot: &Snapshot, place: Place) -> &[u8]
+    ensures { result.now ≡ shown.path_of snapshot.now place }
+{
+    match snapshot.path_at(place.path) {
+        Some(path) => path.bytes(),
+        None => &[],
+    }
+}
+
 /// The order of two places in which they are shown: by the bytes of their paths, then by offset.
 pub fn compare_shown(snapshot: &Snapshot, one: Place, other: Place) -> Ordering
-    requires one { one.path.0 < length snapshot.now }
-    requires other { other.path.0 < length snapshot.now }
     ensures { result ≡ shown.shown_cmp snapshot.now one other }
 {
-    let paths = snapshot.path(one.path).cmp(snapshot.path(other.path));
+    let paths = path_of(snapshot, one).cmp(path_of(snapshot, other));
     paths.then(one.offset.cmp(&other.offset))
 }
 
 /// The one of two places that is shown first, or the second where there is no first.
 pub fn first_shown(snapshot: &Snapshot, best: Option<Place>, place: Place) -> Place
-    requires best { MatchOption best (Unit {0}) (λ p. p.path.0 < length snapshot.now) }
-    requires place { place.path.0 < length snapshot.now }
     ensures { result ≡ lesser (shown.shown_cmp snapshot.now) best place }
 {
     match best {
@@ -64,7 +70,6 @@ fn first_place(
     facts: &FactSet,
     snapshot: &Snapshot,
 ) -> Result<Option<Place>, OutOfMemory>
-    requires { DeclaresKnown snapshot.now facts.now }
     ensures none { IfOk result (λ best. best ≡ None → (k : AnyKey) (p : AnyPlace) → DeclaresFileScope facts.now k p → ⊥) }
     ensures first { IfOk result (λ best. (p : AnyPlace) → best ≡ Some p → ((k : AnyKey) × DeclaresFileScope facts.now k p) × IsFirstPlace snapshot.now facts.now p) }
 {
@@ -116,8 +121,6 @@ fn is_shown_at(
     key: &Key,
     place: Place,
 ) -> Result<bool, OutOfMemory>
-    requires first { first.path.0 < length snapshot.now }
-    requires place { place.path.0 < length snapshot.now }
     ensures { IfOk result (λ is. is ≡ (spec.is_file_scope facts.now key.now && is_eq (shown.shown_cmp snapshot.now place first))) }
 {
     if !is_file_scope(alloc, facts, key)? {
@@ -133,8 +136,6 @@ fn keys_at(
     snapshot: &Snapshot,
     first: Place,
 ) -> Result<Vec<Key>, OutOfMemory>
-    requires known { DeclaresKnown snapshot.now facts.now }
-    requires first { first.path.0 < length snapshot.now }
     ensures { IfOk result (λ keys. (k : AnyKey) → Contains keys.items k ↔ ((p : AnyPlace) × DeclaresFileScope facts.now k p × (shown.shown_cmp snapshot.now p first ≡ Equal))) }
 {
     facts_are_ordered();
@@ -190,7 +191,6 @@ fn internal_keys(
     facts: &FactSet,
     snapshot: &Snapshot,
 ) -> Result<Vec<Key>, OutOfMemory>
-    requires { DeclaresKnown snapshot.now facts.now }
     ensures { IfOk result (λ keys. (k : AnyKey) → Contains keys.items k ↔ MeansInternal snapshot.now facts.now k) }
 {
     facts_are_ordered();
@@ -214,7 +214,6 @@ fn ordinary_keys(
     snapshot: &Snapshot,
     old: &[u8],
 ) -> Result<Vec<Key>, OutOfMemory>
-    requires { DeclaresKnown snapshot.now facts.now }
     ensures { IfOk result (λ keys. (k : AnyKey) → Contains keys.items k ↔ MeansOrdinary snapshot.now facts.now old.now k) }
 {
     let external = Key::Ext(Text::new(alloc, old)?);
@@ -245,7 +244,6 @@ pub fn target_keys(
     old: &[u8],
     target: &Target,
 ) -> Result<Vec<Key>, OutOfMemory>
-    requires { DeclaresKnown snapshot.now facts.now }
     ensures { IfOk result (λ keys. (k : AnyKey) → Contains keys.items k ↔ IsTargetKey snapshot.now facts.now old.now target.now k) }
 {
     match target {

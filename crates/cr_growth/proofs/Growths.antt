@@ -1,5 +1,5 @@
 -- What units come to know is one, and nothing that was known is lost.
-use Rattle.std.proofs.Common.{◌≡◌, ◌⊎◌, ℕ, Bool, true, false, List, [], ◌∷◌, ◌++◌, Option, Some, None, if◌then◌else◌, refl, sym, ap, subst, ◌∙◌, inl, inr}
+use Rattle.std.proofs.Common.{◌≡◌, ◌⊎◌, ℕ, Bool, true, false, List, [], ◌∷◌, ◌++◌, Option, Some, None, if◌then◌else◌, refl, sym, subst, ◌∙◌, inl, inr}
 use Rattle.std.specs.Option.{option_and_then}
 use Rattle.cr_base.specs.declared.unit.Unit.{Unit as TranslationUnit}
 use Rattle.cr_world.specs.Outside.{Files}
@@ -33,7 +33,7 @@ one tree units files a b (grows {more = more} s m g) (grows {more = others} t k 
 
 -- ---- what was known stays known
 
-agrees_same : (w : World) → Agrees w w
+pub agrees_same : (w : World) → Agrees w w
 agrees_same w = record { known = λ path. inr (refl, refl) }
 
 agree_on : (w v u : World) (path : List ℕ) → (w.find path ≡ Unknown) ⊎ ((v.find path ≡ w.find path) × (v.number path ≡ w.number path)) → (v.find path ≡ Unknown) ⊎ ((u.find path ≡ v.find path) × (u.number path ≡ v.number path))
@@ -42,7 +42,7 @@ agree_on w v u path (inl h) more = inl h
 agree_on w v u path (inr f) (inl h) = inl (sym f.0 ∙ h)
 agree_on w v u path (inr f) (inr g) = inr (g.0 ∙ f.0, g.1 ∙ f.1)
 
-agrees_then : (w v u : World) → Agrees w v → Agrees v u → Agrees w u
+pub agrees_then : (w v u : World) → Agrees w v → Agrees v u → Agrees w u
 agrees_then w v u a b = record { known = λ path. agree_on w v u path (a.known path) (b.known path) }
 
 abbrev pub IsLater : List KnownFile → List KnownFile → Type 0
@@ -83,7 +83,7 @@ wanted_later law tree (path ∷ paths) files more e =
     agrees_then (world_of files) (world_of b.0) (world_of more) (path_later law tree path files b.0 (finding path files) b.1)
     (unless_later (is_there (finding path b.0)) b.0 more (with_wanted tree paths b.0) (λ h. wanted_later law tree paths b.0 more h) b.2)
 
-units_later : SnapshotsAgree → (tree : Files) (wave : List KnownFile) (units : List TranslationUnit) (files more : List KnownFile) → after_units tree wave units files ≡ Some more → IsLater files more
+pub units_later : SnapshotsAgree → (tree : Files) (wave : List KnownFile) (units : List TranslationUnit) (files more : List KnownFile) → after_units tree wave units files ≡ Some more → IsLater files more
 units_later law tree wave [] files more e = later_same files more e
 units_later law tree wave (u ∷ us) files more e =
     let b = both_some (with_wanted tree (wanted wave u) files) (after_units tree wave us) more e in

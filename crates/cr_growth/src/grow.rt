@@ -1,13 +1,16 @@
 //! Files that are wanted are read, and made known.
 ghost use Rattle.std.specs.Prelude.{◌≡◌, ◌≤◌, ◌<◌, ◌∷◌, ℕ, List as ListOf, [], length, Some, None, Ok, Err, true, false, IfOk, IsTrue};
 ghost use Rattle.std.specs.List.{Contains};
-ghost use Rattle.cr_world.specs.Outside.{Files, Rose, OnlyRead};
-ghost use Rattle.cr_snapshot.specs.Files.{finding, Unknown};
+ghost use Rattle.cr_world.specs.Outside.{Files, Rose, OnlyRead, ReadsOnly};
+ghost use Rattle.cr_snapshot.specs.Files.{finding, apart_paths, Unknown};
 ghost use Rattle.cr_snapshot.specs.IncludeSearch as search;
+ghost use Rattle.cr_phase4.specs.PreprocessingRun.{Agrees};
+ghost use Rattle.cr_phase4.specs.Search.{world_of};
 ghost use Rattle.cr_growth.specs.Growth.{with_path, with_wanted, is_there};
-ghost use Rattle.cr_growth.specs.Growing.{ReadsOnly, HasCause, Grows};
+ghost use Rattle.cr_growth.specs.Growing.{HasCause, Grows};
 
 use cr_base::{OutOfMemory, PathText};
+use cr_phase4::larger_snapshots_agree;
 use cr_snapshot::{Found, KnowFault, Snapshot};
 use cr_world::{ReadEnd, Tree};
 use std::alloc::Global;
@@ -82,7 +85,10 @@ fn read_path<T: Tree>(
     ensures asked { OnlyRead (λ p. p ≡ path.now) (T.readings tree.old) (T.readings tree.new) }
     ensures grows { (files : Files) → T.files tree.old ≡ Some files → Grows (with_path files path.now snapshot.old Unknown) snapshot.old snapshot.new result }
     ensures cause { HasCause (λ p. (p ≡ path.now) × Rose (T.reads tree.old p) (T.reads tree.new p)) result }
+    ensures apart { apart_paths snapshot.new ≡ apart_paths snapshot.old }
+    ensures agrees { Agrees (world_of snapshot.old) (world_of snapshot.new) }
 {
+    larger_snapshots_agree();
     let mut bytes = Vec::new(alloc);
     let found = match tree.read(alloc, path, MAX_FILE, &mut bytes) {
         ReadEnd::Bytes => Some(bytes),
@@ -107,6 +113,8 @@ fn know_path<T: Tree>(
     ensures asked { OnlyRead (λ p. p ≡ path.now) (T.readings tree.old) (T.readings tree.new) }
     ensures grows { (files : Files) → T.files tree.old ≡ Some files → Grows (with_path files path.now snapshot.old (finding path.now snapshot.old)) snapshot.old snapshot.new result }
     ensures cause { HasCause (λ p. (p ≡ path.now) × Rose (T.reads tree.old p) (T.reads tree.new p)) result }
+    ensures apart { apart_paths snapshot.new ≡ apart_paths snapshot.old }
+    ensures agrees { Agrees (world_of snapshot.old) (world_of snapshot.new) }
 {
     match snapshot.get(path) {
         Found::Known(..) | Found::Absent => Ok(()),
@@ -136,6 +144,8 @@ pub fn know_wanted<T: Tree>(
     ensures asked { OnlyRead (λ p. Contains paths.now p) (T.readings tree.old) (T.readings tree.new) }
     ensures grows { (files : Files) → T.files tree.old ≡ Some files → Grows (with_wanted files paths.now snapshot.old) snapshot.old snapshot.new result }
     ensures cause { HasCause (λ p. Contains paths.now p × Rose (T.reads tree.old p) (T.reads tree.new p)) result }
+    ensures apart { apart_paths snapshot.new ≡ apart_paths snapshot.old }
+    ensures agrees { Agrees (world_of snapshot.old) (world_of snapshot.new) }
 {
     match paths {
         [] => Ok(()),

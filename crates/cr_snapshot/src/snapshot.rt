@@ -160,6 +160,16 @@ impl Snapshot {
         &self.file_at(n.0 as usize).path
     }
 
+    /// The path that has this number, if one has it.
+    pub fn path_at(&self, n: PathNo) -> Option<&PathText>
+        ensures { option_map (λ path. path.now) result ≡ option_map (λ file. file.path) (slice_get self.now n.0) }
+    {
+        match self.files.get_index(n.0 as usize) {
+            Some((_, file)) => Some(&file.path),
+            None => None,
+        }
+    }
+
     fn file_at(&self, n: usize) -> &KnownFile
         requires { n < length self.now }
         ensures { slice_get self.now n ≡ Some result.now }

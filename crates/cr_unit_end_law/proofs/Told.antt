@@ -40,7 +40,7 @@ abbrev Went : Reply Nothing → Type 0
 Went (Goes a s events) = Prim.Unit {0}
 Went (Ends end events) = ⊥
 
-abbrev IsPresent : Finding → Type 0
+abbrev pub IsPresent : Finding → Type 0
 IsPresent f = (n : ℕ) × (bytes : List ℕ) × (f ≡ Present n bytes)
 
 went_behind : (events : List Event) (r : Reply Nothing) → Went (behind events r) → Went r
@@ -68,7 +68,7 @@ module _ (w : World) (enter : Opening) (site : Place) (path : Text) (s : State) 
   present_by Unknown is h = absurd (subst (λ x. Went (looks w enter site (path ∷ []) x s)) (search_is w.find path Unknown is) h)
 
 -- the main file of a unit that is preprocessed whole is there
-main_is_there : (w : World) (u : Unit) (s : State) (events : List Event) → preprocessed w u ≡ Goes Done s events → IsPresent (w.find u.main)
+pub main_is_there : (w : World) (u : Unit) (s : State) (events : List Event) → preprocessed w u ≡ Goes Done s events → IsPresent (w.find u.main)
 unfolding preprocessed
 main_is_there w u s events is =
     let x = went_second (does_first_file w u (words_path u) at_first) (λ d. does_first_file w u u.main) (went_of (preprocessed w u) Done s events is) in

@@ -36,6 +36,13 @@ NoneFell before now = (path : List ℕ) → before path ≤ now path
 abbrev pub AllStay : Counts → Counts → Type 0
 AllStay before now = (path : List ℕ) → now path ≡ before path
 
+-- Files stay, and so do the counts of failed replaces; no count of failed reads falls, and no replace is asked for.
+pub record ReadsOnly (files files' : Option Files) (reads reads' replaces replaces' : Counts) (replacings replacings' : List (List ℕ)) : Type 0 where
+  pub same : files' ≡ files
+  pub later : NoneFell reads reads'
+  pub stay : AllStay replaces replaces'
+  pub none : replacings' ≡ replacings
+
 -- what a read hands over, whatever the tree tells
 abbrev pub HandsOver : ReadEnd → ℕ → List ℕ → Type 0
 HandsOver read.Bytes max into = length into ≤ max

@@ -4,7 +4,7 @@ use Rattle.std.specs.List.{Contains, list_any}
 use Rattle.std.specs.Ordering.{eq_by_cmp}
 use Rattle.std.specs.BTreeSet as tree
 use Rattle.cr_base.specs.declared.token.Place.{Place}
-use Rattle.cr_facts.specs.declared.fact.Fact.TheVariants.{Declares, Denotes}
+use Rattle.cr_facts.specs.declared.fact.Fact.TheVariants.{Denotes}
 use Rattle.cr_class.specs.RenameClass.{key_cmp, IsRenamedPlace}
 use Rattle.cr_class.proofs.Candidates.{key_total}
 use Rattle.cr_class.proofs.Sharings.{key_ties, item_at}
@@ -40,10 +40,7 @@ returns-clause-symbol c =
     let k = item_at c.in_ok-targets.targets.items 0 some in
     (k.0, (c.in_ok-targets.ensures k.0).0 (first_contains c.in_ok-targets.targets.items k.0 k.1))
 
-pub target_keys-requires : goal.target_keys-requires
-target_keys-requires c k p has = c.requires (Declares k p) has
-
 pub returns-clause-known : goal.returns-clause-known
-returns-clause-known c p has =
+returns-clause-known c known p has =
     let h = (c.in_ok-places.ensures.places p).0 (subst (λ l. Contains l p) c.of-2.ensures has) in
-    c.requires (Denotes p h.0) h.2
+    known (Denotes p h.0) h.2

@@ -12,16 +12,13 @@ use Rattle.cr_class.specs.Declarations.{least}
 use Rattle.cr_class.specs.Judging.{RefusesAt}
 use Rattle.cr_class.specs.Verdict.{IsGiven, IsCaptured, is_in_class, is_renamed, capture_place}
 use Rattle.cr_class.proofs.Candidates.{shown_total}
-use Rattle.cr_class.proofs.Judged.{none_found, some_found, same_refusal, on_ok, known_capture, passes_capture}
+use Rattle.cr_class.proofs.Judged.{none_found, some_found, same_refusal, on_ok, passes_capture}
 use Rattle.cr_class.proofs.steps.refuse_capture.Goals as goal
-
-pub least_place-requires : goal.least_place-requires
-least_place-requires c x has = known_capture c.args.question.now.snapshot.now c.args.question.now.facts.now c.requires.asked.0 (tree.contains key_cmp c.args.members.now.keys) (tree.contains place_cmp c.args.members.now.places) x ((c.in_ok-places.ensures x).0 (subst (λ l. Contains l x) c.deref.ensures.value has))
 
 pub returns-in-None-clause-ok : goal.returns-in-None-clause-ok
 returns-in-None-clause-ok c =
-    let known_is : tree.contains key_cmp c.args.members.now.keys ≡ is_in_class c.args.question.now.class.now = λ i k. c.requires.members.0 k i in
-    let renamed_is : tree.contains place_cmp c.args.members.now.places ≡ is_renamed c.args.question.now.class.now = λ i p. c.requires.members.1 p i in
+    let known_is : tree.contains key_cmp c.args.members.now.keys ≡ is_in_class c.args.question.now.class.now = λ i k. c.requires.0 k i in
+    let renamed_is : tree.contains place_cmp c.args.members.now.places ≡ is_renamed c.args.question.now.class.now = λ i p. c.requires.1 p i in
     let A : (Key → Bool) → (Place → Bool) → Type 0 = λ known renamed. (x : Place) → Contains c.in_ok-places.places.items x ↔ IsGiven (capture_place known renamed) c.args.question.now.facts.now x in
     let are : A (is_in_class c.args.question.now.class.now) (is_renamed c.args.question.now.class.now) = subst (A (is_in_class c.args.question.now.class.now)) renamed_is (subst (λ f. A f (tree.contains place_cmp c.args.members.now.places)) known_is c.in_ok-places.ensures) in
     let none : (q : Place) → IsCaptured c.args.question.now.facts.now c.args.question.now.class.now q → ⊥ = none_found (shown_cmp c.args.question.now.snapshot.now) (shown_total c.args.question.now.snapshot.now) (IsCaptured c.args.question.now.facts.now c.args.question.now.class.now) c.in_ok-places.places.items are (ap (λ l. least (shown_cmp c.args.question.now.snapshot.now) None l) (sym c.deref.ensures.value) ∙ sym c.least_place.ensures ∙ c.in-None.is) in
@@ -30,8 +27,8 @@ returns-in-None-clause-ok c =
 
 pub returns-in-None-clause-refused : goal.returns-in-None-clause-refused
 returns-in-None-clause-refused c = λ r e.
-    let known_is : tree.contains key_cmp c.args.members.now.keys ≡ is_in_class c.args.question.now.class.now = λ i k. c.requires.members.0 k i in
-    let renamed_is : tree.contains place_cmp c.args.members.now.places ≡ is_renamed c.args.question.now.class.now = λ i p. c.requires.members.1 p i in
+    let known_is : tree.contains key_cmp c.args.members.now.keys ≡ is_in_class c.args.question.now.class.now = λ i k. c.requires.0 k i in
+    let renamed_is : tree.contains place_cmp c.args.members.now.places ≡ is_renamed c.args.question.now.class.now = λ i p. c.requires.1 p i in
     let A : (Key → Bool) → (Place → Bool) → Type 0 = λ known renamed. (x : Place) → Contains c.in_ok-places.places.items x ↔ IsGiven (capture_place known renamed) c.args.question.now.facts.now x in
     let are : A (is_in_class c.args.question.now.class.now) (is_renamed c.args.question.now.class.now) = subst (A (is_in_class c.args.question.now.class.now)) renamed_is (subst (λ f. A f (tree.contains place_cmp c.args.members.now.places)) known_is c.in_ok-places.ensures) in
     let none : (q : Place) → IsCaptured c.args.question.now.facts.now c.args.question.now.class.now q → ⊥ = none_found (shown_cmp c.args.question.now.snapshot.now) (shown_total c.args.question.now.snapshot.now) (IsCaptured c.args.question.now.facts.now c.args.question.now.class.now) c.in_ok-places.places.items are (ap (λ l. least (shown_cmp c.args.question.now.snapshot.now) None l) (sym c.deref.ensures.value) ∙ sym c.least_place.ensures ∙ c.in-None.is) in
@@ -40,8 +37,8 @@ returns-in-None-clause-refused c = λ r e.
 
 pub returns-clause-refused : goal.returns-clause-refused
 returns-clause-refused c r e =
-    let known_is : tree.contains key_cmp c.args.members.now.keys ≡ is_in_class c.args.question.now.class.now = λ i k. c.requires.members.0 k i in
-    let renamed_is : tree.contains place_cmp c.args.members.now.places ≡ is_renamed c.args.question.now.class.now = λ i p. c.requires.members.1 p i in
+    let known_is : tree.contains key_cmp c.args.members.now.keys ≡ is_in_class c.args.question.now.class.now = λ i k. c.requires.0 k i in
+    let renamed_is : tree.contains place_cmp c.args.members.now.places ≡ is_renamed c.args.question.now.class.now = λ i p. c.requires.1 p i in
     let A : (Key → Bool) → (Place → Bool) → Type 0 = λ known renamed. (x : Place) → Contains c.in_ok-places.places.items x ↔ IsGiven (capture_place known renamed) c.args.question.now.facts.now x in
     let are : A (is_in_class c.args.question.now.class.now) (is_renamed c.args.question.now.class.now) = subst (A (is_in_class c.args.question.now.class.now)) renamed_is (subst (λ f. A f (tree.contains place_cmp c.args.members.now.places)) known_is c.in_ok-places.ensures) in
     subst (RefusesAt c.args.question.now 7) (same_refusal _ r e)

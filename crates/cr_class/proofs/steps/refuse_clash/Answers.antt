@@ -8,9 +8,6 @@ use Rattle.cr_class.proofs.Candidates.{shown_total}
 use Rattle.cr_class.proofs.Judged.{none_found, some_found, same_refusal}
 use Rattle.cr_class.proofs.steps.refuse_clash.Goals as goal
 
-pub least_place-requires : goal.least_place-requires
-least_place-requires c p has = c.requires.asked.1 p (subst (λ l. Contains l p) c.items-class.ensures has)
-
 pub returns-in-None-clause-ok : goal.returns-in-None-clause-ok
 returns-in-None-clause-ok c = λ p h.
     none_found (shown_cmp c.args.question.now.snapshot.now) (shown_total c.args.question.now.snapshot.now) (Contains c.args.question.now.class.now.places) c.items-class.result.now (λ q. (subst (λ l. Contains l q) c.items-class.ensures, subst (λ l. Contains l q) (sym c.items-class.ensures)))

@@ -11,16 +11,13 @@ use Rattle.cr_class.specs.RenameClass.{key_cmp, place_cmp}
 use Rattle.cr_class.specs.Declarations.{least}
 use Rattle.cr_class.specs.Judging.{RefusesAt}
 use Rattle.cr_class.specs.Verdict.{IsGiven, use_cmp, is_in_class, is_renamed, mixed_use}
-use Rattle.cr_class.proofs.Judged.{use_total, none_found, some_found, same_refusal, known_mixed, passes_mixed}
+use Rattle.cr_class.proofs.Judged.{use_total, none_found, some_found, same_refusal, passes_mixed}
 use Rattle.cr_class.proofs.steps.refuse_mixed.Goals as goal
-
-pub least_use-requires : goal.least_use-requires
-least_use-requires c x has = known_mixed c.args.question.now.snapshot.now c.args.question.now.facts.now c.requires.asked.0 (tree.contains key_cmp c.args.members.now.keys) (tree.contains place_cmp c.args.members.now.places) x ((c.in_ok-uses.ensures x).0 (subst (λ l. Contains l x) c.deref.ensures.value has))
 
 pub returns-in-None-clause-ok : goal.returns-in-None-clause-ok
 returns-in-None-clause-ok c =
-    let known_is : tree.contains key_cmp c.args.members.now.keys ≡ is_in_class c.args.question.now.class.now = λ i k. c.requires.members.0 k i in
-    let renamed_is : tree.contains place_cmp c.args.members.now.places ≡ is_renamed c.args.question.now.class.now = λ i p. c.requires.members.1 p i in
+    let known_is : tree.contains key_cmp c.args.members.now.keys ≡ is_in_class c.args.question.now.class.now = λ i k. c.requires.0 k i in
+    let renamed_is : tree.contains place_cmp c.args.members.now.places ≡ is_renamed c.args.question.now.class.now = λ i p. c.requires.1 p i in
     let A : (Key → Bool) → (Place → Bool) → Type 0 = λ known renamed. (x : Use) → Contains c.in_ok-uses.uses.items x ↔ IsGiven (mixed_use known renamed) c.args.question.now.facts.now x in
     let are : A (is_in_class c.args.question.now.class.now) (is_renamed c.args.question.now.class.now) = subst (A (is_in_class c.args.question.now.class.now)) renamed_is (subst (λ f. A f (tree.contains place_cmp c.args.members.now.places)) known_is c.in_ok-uses.ensures) in
     passes_mixed c.args.question.now.facts.now c.args.question.now.class.now c.args.question.now.snapshot.now (option_map (λ (r : Bor PathText). r.now) c.args.question.now.root) c.args.question.now.old.now c.args.question.now.new.now
@@ -28,8 +25,8 @@ returns-in-None-clause-ok c =
 
 pub returns-clause-refused : goal.returns-clause-refused
 returns-clause-refused c r e =
-    let known_is : tree.contains key_cmp c.args.members.now.keys ≡ is_in_class c.args.question.now.class.now = λ i k. c.requires.members.0 k i in
-    let renamed_is : tree.contains place_cmp c.args.members.now.places ≡ is_renamed c.args.question.now.class.now = λ i p. c.requires.members.1 p i in
+    let known_is : tree.contains key_cmp c.args.members.now.keys ≡ is_in_class c.args.question.now.class.now = λ i k. c.requires.0 k i in
+    let renamed_is : tree.contains place_cmp c.args.members.now.places ≡ is_renamed c.args.question.now.class.now = λ i p. c.requires.1 p i in
     let A : (Key → Bool) → (Place → Bool) → Type 0 = λ known renamed. (x : Use) → Contains c.in_ok-uses.uses.items x ↔ IsGiven (mixed_use known renamed) c.args.question.now.facts.now x in
     let are : A (is_in_class c.args.question.now.class.now) (is_renamed c.args.question.now.class.now) = subst (A (is_in_class c.args.question.now.class.now)) renamed_is (subst (λ f. A f (tree.contains place_cmp c.args.members.now.places)) known_is c.in_ok-uses.ensures) in
     subst (RefusesAt c.args.question.now 2) (same_refusal _ r e)

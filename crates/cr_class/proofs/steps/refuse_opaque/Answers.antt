@@ -1,5 +1,4 @@
 use Rattle.std.proofs.Common.{refl, sym, ap, ◌∙◌, subst, Bor, None}
-use Rattle.std.specs.List.{Contains}
 use Rattle.std.specs.Option.{option_map}
 use Rattle.cr_base.specs.declared.path.PathText.{PathText}
 use Rattle.cr_class.specs.ShownOrder.{shown_cmp}
@@ -7,11 +6,8 @@ use Rattle.cr_class.specs.Declarations.{least}
 use Rattle.cr_class.specs.Judging.{RefusesAt}
 use Rattle.cr_class.specs.Verdict.{IsGiven, opaque_place}
 use Rattle.cr_class.proofs.Candidates.{shown_total}
-use Rattle.cr_class.proofs.Judged.{none_found, some_found, same_refusal, known_opaque, passes_opaque}
+use Rattle.cr_class.proofs.Judged.{none_found, some_found, same_refusal, passes_opaque}
 use Rattle.cr_class.proofs.steps.refuse_opaque.Goals as goal
-
-pub least_place-requires : goal.least_place-requires
-least_place-requires c x has = known_opaque c.args.question.now.snapshot.now c.args.question.now.facts.now c.requires.asked.0 x ((c.in_ok-places.ensures x).0 (subst (λ l. Contains l x) c.deref.ensures.value has))
 
 pub returns-in-None-clause-ok : goal.returns-in-None-clause-ok
 returns-in-None-clause-ok c =

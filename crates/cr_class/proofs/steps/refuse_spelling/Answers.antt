@@ -12,12 +12,6 @@ use Rattle.cr_class.proofs.Candidates.{shown_total}
 use Rattle.cr_class.proofs.Judged.{none_found, some_found, same_refusal, passes_spelling}
 use Rattle.cr_class.proofs.steps.refuse_spelling.Goals as goal
 
-pub unspellable_places-requires : goal.unspellable_places-requires
-unspellable_places-requires c p has = c.requires.asked.1 p (subst (λ l. Contains l p) c.items-class.ensures has)
-
-pub least_place-requires : goal.least_place-requires
-least_place-requires c p has = c.requires.asked.1 p (subst (λ l. Contains l p) c.items-class.ensures ((c.in_ok-places.ensures p).0 (subst (λ l. Contains l p) c.deref.ensures.value has)).0)
-
 pub returns-in-None-clause-ok : goal.returns-in-None-clause-ok
 returns-in-None-clause-ok c =
     let are : (p : Place) → Contains c.in_ok-places.places.items p ↔ (λ (q : Place). Contains c.args.question.now.class.now.places q × (is_unspellable_at c.args.question.now.old.now c.args.question.now.new.now (bytes_of c.args.question.now.snapshot.now q) q.offset ≡ true)) p = λ p. subst (λ (l : List Place). Contains c.in_ok-places.places.items p ↔ (Contains l p × (is_unspellable_at c.args.question.now.old.now c.args.question.now.new.now (bytes_of c.args.question.now.snapshot.now p) p.offset ≡ true))) c.items-class.ensures (c.in_ok-places.ensures p) in

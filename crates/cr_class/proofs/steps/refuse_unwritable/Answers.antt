@@ -12,12 +12,6 @@ use Rattle.cr_class.proofs.Candidates.{shown_total}
 use Rattle.cr_class.proofs.Judged.{none_found, some_found, same_refusal, passes_unwritable}
 use Rattle.cr_class.proofs.steps.refuse_unwritable.Goals as goal
 
-pub unwritable_places-requires : goal.unwritable_places-requires
-unwritable_places-requires c p has = c.requires.asked.1 p (subst (λ l. Contains l p) c.items-class.ensures has)
-
-pub least_place-requires : goal.least_place-requires
-least_place-requires c p has = c.requires.asked.1 p (subst (λ l. Contains l p) c.items-class.ensures ((c.in_ok-places.ensures p).0 (subst (λ l. Contains l p) c.deref.ensures.value has)).0)
-
 pub returns-in-None-clause-ok : goal.returns-in-None-clause-ok
 returns-in-None-clause-ok c =
     let are : (p : Place) → Contains c.in_ok-places.places.items p ↔ (λ (q : Place). Contains c.args.question.now.class.now.places q × (is_unwritable_path (option_map (λ (r : Bor PathText). r.now) c.args.question.now.root) (path_of c.args.question.now.snapshot.now q) ≡ true)) p = λ p. subst (λ (l : List Place). Contains c.in_ok-places.places.items p ↔ (Contains l p × (is_unwritable_path (option_map (λ (r : Bor PathText). r.now) c.args.question.now.root) (path_of c.args.question.now.snapshot.now p) ≡ true))) c.items-class.ensures (c.in_ok-places.ensures p) in

@@ -1,0 +1,5 @@
+pub mod Refusals
+pub mod Goals
+pub mod Units
+pub mod Reading
+pub mod Seen
