@@ -1,0 +1,4 @@
+mod Causes
+mod Runs
+mod Waves
+mod Parts
