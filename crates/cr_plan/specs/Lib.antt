@@ -1,0 +1,4 @@
+pub mod Meant
+pub mod Judgement
+pub mod Outcome
+pub mod Editing
